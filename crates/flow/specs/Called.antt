@@ -12,7 +12,7 @@ use Rattle.sqlite.specs.declared.error.ErrorCode.{ErrorCode}
 use Rattle.flow_base.specs.declared.fault.Fault.{Fault}
 use Rattle.flow_base.specs.declared.fault.Fault.TheVariants as faults
 use Rattle.flow_check.specs.Language.{meaning_of}
-use Rattle.flow_machine.specs.declared.answer.Answering.{Ghosts as Answerings}
+use Rattle.flow_model.specs.declared.answer.Answering.{Ghosts as Answerings}
 use Rattle.flow_commit.specs.Keeping.{Keeping}
 use Rattle.flow_lines.specs.declared.input.LineSource.{Ghosts as Inputs}
 use Rattle.flow_lines.specs.declared.output.Output.{Ghosts as Outputs}
@@ -20,6 +20,7 @@ use Rattle.flow_cli.specs.Calls.{IsCall}
 use Rattle.flow_cli.specs.Calls.{Call as Pure}
 use Rattle.flow_cli.specs.Reasons.{early_of}
 use Rattle.flow_cli.specs.Shown.{shown}
+use Rattle.flow_cli.specs.Telling.{Tells}
 use Rattle.flow_cli.specs.Usages.{meant_by}
 use Rattle.flow_cli.specs.declared.call.Call.{Call}
 use Rattle.flow_cli.specs.declared.call.Call.TheVariants as call
@@ -32,7 +33,7 @@ use Rattle.flow.specs.Over.{Asks, IsOnFile, OverFile, OverMemory, OverNamed, Ver
 use Rattle.flow.specs.Reading.{Reads}
 use Rattle.flow.specs.Replays.{ReplaysNamed}
 use Rattle.flow.specs.Running.{HasSettings, RunsWith}
-use Rattle.flow.specs.Telling.{Tells, tells_safety, tells_settlement, tells_verdict}
+use Rattle.flow.specs.Telling.{tells_safety, tells_settlement, tells_verdict}
 use Rattle.flow.specs.Working.{Lists, Performed}
 use Rattle.flow.specs.declared.running.Activities.{Activities}
 use Rattle.flow.specs.declared.running.Activities.TheVariants as activities

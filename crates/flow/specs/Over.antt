@@ -11,7 +11,7 @@ use Rattle.flow_base.specs.declared.fault.Fault.{Fault}
 use Rattle.flow_base.specs.declared.fault.Fault.TheVariants as fault
 use Rattle.flow_model.specs.Book.{Book}
 use Rattle.flow_machine.specs.Verifying.{CantBeReplayed}
-use Rattle.flow_machine.specs.declared.verify.Totals.{Totals}
+use Rattle.flow_base.specs.declared.book.Totals.{Totals}
 use Rattle.flow_check.specs.Language.{meaning_of}
 use Rattle.flow_commit.specs.Committing.{IsDown}
 use Rattle.flow_commit.specs.Keeping.{IsFit, Keeping, KeepsBook}

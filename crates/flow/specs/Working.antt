@@ -7,7 +7,7 @@ use Rattle.flow_base.specs.declared.code.Code.TheVariants as codes
 use Rattle.flow_base.specs.declared.command.Command.TheVariants as commands
 use Rattle.flow_base.specs.declared.fault.Fault.{Fault}
 use Rattle.flow_base.specs.declared.fault.Fault.TheVariants as fault
-use Rattle.flow_machine.specs.declared.answer.Answering.{Ghosts as Answerings}
+use Rattle.flow_model.specs.declared.answer.Answering.{Ghosts as Answerings}
 use Rattle.flow_lines.specs.Answering.{AllAnswered, HasFew, IsFull, OfBatch, SomeAnswered, StatusWithin, StopsAmong, StopsWithin}
 use Rattle.flow_lines.specs.Driving.{lines_of, WritesBeginning}
 use Rattle.flow_lines.specs.Ends.{input_failed, output_failed}

@@ -13,7 +13,7 @@ use flow_cli::reason::Early;
 use flow_engine::engine::Engine;
 use flow_lines::fault::fault_of_error;
 use flow_lines::output::Output;
-use flow_machine::answer::Answering;
+use flow_model::answer::Answering;
 use sqlite::MemStore;
 use std::alloc::Global;
 use std::sync::Wait;

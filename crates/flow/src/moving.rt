@@ -1,4 +1,5 @@
 //! The line on a terminal that says how far the move of a store is.
+ghost use Rattle.std.specs.Prelude.{◌≡◌, false};
 
 use flow_move::watch::Watch;
 use std::alloc::{AllocError, Global};
@@ -32,7 +33,10 @@ fn draw<P: Write>(terminal: &mut P, line: &str) {
 }
 
 impl<P: Write + Drop> Moving<P> {
-    pub fn on(alloc: Global, terminal: Option<P>) -> Moving<P> {
+    /// No line stands there yet.
+    pub fn on(alloc: Global, terminal: Option<P>) -> Moving<P>
+        ensures { (result.terminal ≡ terminal) × (result.stands ≡ false) }
+    {
         Moving {
             alloc,
             terminal,
@@ -40,8 +44,11 @@ impl<P: Write + Drop> Moving<P> {
         }
     }
 
-    /// Takes the line away, where one stands.
-    pub fn clear(&mut self) {
+    /// Takes the line away, where one stands. Where none does nothing is written.
+    pub fn clear(&mut self)
+        ensures gone { self.new.stands ≡ false }
+        ensures still { self.old.stands ≡ false → self.new ≡ self.old }
+    {
         if !self.stands {
             return;
         }

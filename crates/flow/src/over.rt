@@ -16,7 +16,7 @@ use flow_cli::totals::tell_totals;
 use flow_cli::work::Work;
 use flow_engine::engine::Engine;
 use flow_lines::output::Output;
-use flow_machine::answer::Answering;
+use flow_model::answer::Answering;
 use flow_settings::settings::Settings;
 use sqlite::{Alter, MemStore};
 use std::alloc::Global;

@@ -44,6 +44,34 @@ fn reader_of<H: System>(system: &H) -> Result<H::Reader, Fault>
     }
 }
 
+/// Runs an engine from this input to standard output, with activities outside.
+fn run_outside<H: System, S: Alter, T: Threads + Wait + Clock + Copy + Send + Drop + 'static>(
+    alloc: Global,
+    system: &H,
+    threads: &T,
+    engine: &mut Engine<S>,
+    reader: H::Reader,
+    settings: Settings,
+) -> Result<u8, Fault>
+    requires { engine.old.log ≡ [] }
+    ensures runs { Runs S.Store (H.lends system.now) engine.old engine.new result }
+    ensures prints { Prints S.Store H.Replies.contents (H.prints system.now) (H.lends system.now) engine.old engine.new result }
+{
+    let replies = system.replies();
+    match serve(
+        threads,
+        alloc,
+        engine,
+        reader,
+        replies,
+        settings,
+        SystemClock::new(*threads),
+    ) {
+        Ok(ended) => ended.outcome(),
+        Err(fault) => Err(fault),
+    }
+}
+
 /// What becomes of a task whose activity no worker has.
 fn unknown_to<H: System>(system: &H, leave_unknown: bool) -> UnknownActivity<H::Notes> {
     if leave_unknown {
@@ -77,34 +105,6 @@ fn run_inside<H: System, S: Alter, T: Threads + Wait + Clock + Copy + Send + Dro
         unknown,
         settings,
         &BuiltIn,
-        SystemClock::new(*threads),
-    ) {
-        Ok(ended) => ended.outcome(),
-        Err(fault) => Err(fault),
-    }
-}
-
-/// Runs an engine from this input to standard output, with activities outside.
-fn run_outside<H: System, S: Alter, T: Threads + Wait + Clock + Copy + Send + Drop + 'static>(
-    alloc: Global,
-    system: &H,
-    threads: &T,
-    engine: &mut Engine<S>,
-    reader: H::Reader,
-    settings: Settings,
-) -> Result<u8, Fault>
-    requires { engine.old.log ≡ [] }
-    ensures runs { Runs S.Store (H.lends system.now) engine.old engine.new result }
-    ensures prints { Prints S.Store H.Replies.contents (H.prints system.now) (H.lends system.now) engine.old engine.new result }
-{
-    let replies = system.replies();
-    match serve(
-        threads,
-        alloc,
-        engine,
-        reader,
-        replies,
-        settings,
         SystemClock::new(*threads),
     ) {
         Ok(ended) => ended.outcome(),

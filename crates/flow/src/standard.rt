@@ -7,7 +7,7 @@ use flow_cli::listing::tell_open;
 use flow_cli::work::{Work, perform};
 use flow_lines::fault::fault_of_error;
 use flow_lines::output::Output;
-use flow_machine::answer::Answering;
+use flow_model::answer::Answering;
 use std::alloc::Global;
 
 /// Does it from the lines of the input to the output.

@@ -2,9 +2,10 @@
 ghost use Rattle.std.specs.Prelude.{◌≡◌, Ok, Err, IfOk, IfErr};
 ghost use Rattle.std.specs.IoError.{error_kind};
 ghost use Rattle.std.specs.declared.io.Error.{Error as IoError};
+ghost use Rattle.flow_cli.specs.Telling.{Tells};
 ghost use Rattle.flow.specs.Ends.{Ends};
 ghost use Rattle.flow.specs.Reading.{IsUnread, Reads};
-ghost use Rattle.flow.specs.Telling.{tells_safety, tells_settlement, tells_verdict, Tells};
+ghost use Rattle.flow.specs.Telling.{tells_safety, tells_settlement, tells_verdict};
 
 use crate::ends::early;
 use crate::system::System;

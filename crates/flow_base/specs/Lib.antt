@@ -10,3 +10,4 @@ pub mod Leaves
 pub mod Gives
 pub mod Fields
 pub mod Effects
+pub mod Keys

@@ -6,19 +6,49 @@ use crate::sequence::Sequence;
 use crate::text::{Key, RawText, Text};
 use crate::value::Value;
 
+/// A run of a flow is to be started.
+#[derive(Debug, Drop)]
+pub struct Start {
+    /// The request id: the same one again is answered with the run that it started.
+    pub request: Key,
+    pub flow: Key,
+    pub text: TextNo,
+    pub arguments: Sequence<Value>,
+    pub at: Moment,
+}
+
+/// An attempt of an activity gave a value.
+#[derive(Debug, Drop)]
+pub struct Complete {
+    pub run: RunId,
+    /// The event that scheduled the activity.
+    pub event: EventId,
+    pub attempt: u64,
+    pub value: Value,
+    pub at: Moment,
+}
+
+/// An attempt of an activity failed.
+#[derive(Debug, Drop)]
+pub struct Fail {
+    pub run: RunId,
+    /// The event that scheduled the activity.
+    pub event: EventId,
+    pub attempt: u64,
+    pub reason: Text,
+    pub at: Moment,
+}
+
 /// What is asked of the engine.
 #[derive(Debug, Drop)]
 pub enum Command {
     /// A text.
     Register(RawText),
-    /// A request id, a flow, a text, its arguments, and a moment.
-    Start(Key, Key, TextNo, Sequence<Value>, Moment),
+    Start(Start),
     /// A request id, a flow, the signal's name, what it carries, and a moment.
     Signal(Key, Key, RawText, Value, Moment),
-    /// A run, the event that scheduled the activity, the attempt, what the activity gave, and a moment.
-    Complete(RunId, EventId, u64, Value, Moment),
-    /// A run, the event that scheduled the activity, the attempt, why it failed, and a moment.
-    Fail(RunId, EventId, u64, Text, Moment),
+    Complete(Complete),
+    Fail(Fail),
     /// The moment up to which timers are due.
     Tick(Moment),
     /// A run, why it is to be closed, and a moment.

@@ -1,11 +1,11 @@
 //! What the built-in activities give.
 use flow_base::number::{EventId, RunId};
 use flow_base::sequence::Sequence;
+use flow_base::task::Task;
 use flow_base::text::Key;
 use flow_base::value::Value;
-use flow_machine::task::Task;
 use flow_pool::activity::{Activity, Attempt};
-use flow_pool::builtin::{Add, Echo, Flaky};
+use flow_pool::builtin::Builtin;
 use std::alloc::Global;
 use std::test::Fail;
 
@@ -59,19 +59,30 @@ fn gives<A: Activity>(
 #[test]
 fn echo_gives_its_first_argument(rt: HostRuntime) -> Result<(), Fail> {
     let alloc = rt.alloc();
-    assert!(rt; gives(alloc, &mut Echo, 1, &[7, 8], 7, "")?);
-    assert!(rt; gives(alloc, &mut Echo, 1, &[], 0, "bad arguments")?);
-    assert!(rt; Echo.name() == "echo" && Add.name() == "add" && Flaky.name() == "flaky");
+    assert!(rt; gives(alloc, &mut Builtin::Echo, 1, &[7, 8], 7, "")?);
+    assert!(rt; gives(alloc, &mut Builtin::Echo, 1, &[], 0, "bad arguments")?);
+    assert!(rt; Builtin::Echo.name() == "echo");
+    assert!(rt; Builtin::Add.name() == "add");
+    assert!(rt; Builtin::Flaky.name() == "flaky");
     Ok(())
 }
 
 #[test]
 fn add_gives_the_sum(rt: HostRuntime) -> Result<(), Fail> {
     let alloc = rt.alloc();
-    assert!(rt; gives(alloc, &mut Add, 1, &[40, 2], 42, "")?);
-    assert!(rt; gives(alloc, &mut Add, 1, &[9223372036854775807, 1], 0, "arith")?);
-    assert!(rt; gives(alloc, &mut Add, 1, &[], 0, "bad arguments")?);
-    assert!(rt; gives(alloc, &mut Add, 9, &[1, 2, 3], 0, "bad arguments")?);
+    assert!(rt; gives(alloc, &mut Builtin::Add, 1, &[40, 2], 42, "")?);
+    assert!(rt;
+        gives(
+            alloc,
+            &mut Builtin::Add,
+            1,
+            &[9223372036854775807, 1],
+            0,
+            "arith"
+        )?
+    );
+    assert!(rt; gives(alloc, &mut Builtin::Add, 1, &[], 0, "bad arguments")?);
+    assert!(rt; gives(alloc, &mut Builtin::Add, 9, &[1, 2, 3], 0, "bad arguments")?);
     Ok(())
 }
 
@@ -79,12 +90,12 @@ fn add_gives_the_sum(rt: HostRuntime) -> Result<(), Fail> {
 fn flaky_fails_twice(rt: HostRuntime) -> Result<(), Fail> {
     let alloc = rt.alloc();
     for attempt in [1, 2] {
-        assert!(rt; gives(alloc, &mut Flaky, attempt, &[9], 0, "flaky")?);
-        assert!(rt; gives(alloc, &mut Flaky, attempt, &[], 0, "bad arguments")?);
+        assert!(rt; gives(alloc, &mut Builtin::Flaky, attempt, &[9], 0, "flaky")?);
+        assert!(rt; gives(alloc, &mut Builtin::Flaky, attempt, &[], 0, "bad arguments")?);
     }
     for attempt in [3, 50] {
-        assert!(rt; gives(alloc, &mut Flaky, attempt, &[9], 9, "")?);
-        assert!(rt; gives(alloc, &mut Flaky, attempt, &[], 0, "bad arguments")?);
+        assert!(rt; gives(alloc, &mut Builtin::Flaky, attempt, &[9], 9, "")?);
+        assert!(rt; gives(alloc, &mut Builtin::Flaky, attempt, &[], 0, "bad arguments")?);
     }
     Ok(())
 }

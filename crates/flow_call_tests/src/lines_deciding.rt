@@ -3,9 +3,9 @@ ghost use Rattle.flow_model.specs.Apply.{rules_of};
 
 use flow_base::command::Command;
 use flow_check::language::Language;
-use flow_machine::answer::{Answer, Answering, Stop, Together};
 use flow_machine::decide::{decide, decide_all};
 use flow_machine::seats::Seats;
+use flow_model::answer::{Answer, Answering, Stop, Together};
 use flow_programs::kept::Kept;
 use flow_programs::programs::Programs;
 use flow_view::lists::Lists;

@@ -7,7 +7,7 @@ use flow_lines::batch::BatchSize;
 use flow_lines::drive::drive_lines;
 use flow_lines::fault::{fault_of_stop, status};
 use flow_lines::streams::{Reading, Writing};
-use flow_machine::answer::{Answer, Answering, Stop, Together};
+use flow_model::answer::{Answer, Answering, Stop, Together};
 use std::alloc::Global;
 use std::test::Fail;
 

@@ -1,12 +1,12 @@
 //! All runs of plain lists are replayed: what is reported of them.
-use flow_base::book::{Change, Turn};
+use flow_base::book::{Change, Totals, Turn};
 use flow_base::event::{Cmd, Input};
 use flow_base::number::{EventId, Moment, RunId, TextNo};
 use flow_base::sequence::Sequence;
 use flow_base::text::{Key, RawText};
 use flow_base::value::{Kind, Value};
 use flow_check::language::Language;
-use flow_machine::verify::{Totals, Unverified, verified};
+use flow_machine::verify::{Unverified, verified};
 use flow_programs::kept::Kept;
 use flow_view::lists::Lists;
 use flow_view::view::View;

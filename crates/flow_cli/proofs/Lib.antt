@@ -1,9 +1,11 @@
 pub mod Endings
 pub mod Marks
+pub mod Tellings
 pub mod Rows
 pub mod Runs
 pub mod Safeties
 pub mod Settlements
+pub mod LinesWritten
 pub mod Histories
 pub mod OpenPages
 pub mod Listings

@@ -1,6 +1,6 @@
 -- The lines of open runs, one after the other and page by page.
-use Rattle.std.proofs.Common.{◌≡◌, ℕ, suc, List, [], ◌∷◌, ◌++◌, map, take, drop, length, get_or, ◌+◌, ◌<◌, ◌≤◌, ◌^◌, Option, Some, None, refl, sym, ap, ◌∙◌, subst, append_assoc, append-nil, take-append-drop, drop-cons, arith}
-use Rattle.std.proofs.lemmas.List.{take_more, map-append}
+use Rattle.std.proofs.Common.{◌≡◌, ℕ, List, [], ◌∷◌, ◌++◌, map, take, drop, ◌+◌, ◌<◌, ◌≤◌, ◌^◌, Option, Some, None, refl, sym, ap, ◌∙◌, subst, append_assoc, append-nil, take-append-drop, arith}
+use Rattle.std.proofs.lemmas.List.{map-append}
 use Rattle.std.specs.Io.KnownBytes.{Appends}
 use Rattle.std.proofs.KnownBytes.{Appends-nil, Appends-trans}
 use Rattle.flow_base.specs.declared.book.Run.{Run}
@@ -15,59 +15,15 @@ use Rattle.flow_base.specs.declared.fault.Fault.{Fault}
 use Rattle.flow_base.specs.declared.fault.Fault.TheVariants as fault
 use Rattle.flow_model.specs.Apply.{Rules, outcome, list_open, open_run_told}
 use Rattle.flow_model.specs.Book.{Book, open_runs}
-use Rattle.flow_machine.specs.Answers.{Answers}
-use Rattle.flow_machine.specs.declared.answer.Answer.TheVariants as answer
-use Rattle.flow_machine.specs.declared.answer.Stop.{Stop}
-use Rattle.flow_lines.specs.Answering.{WritesPart}
+use Rattle.flow_model.specs.Answers.{Answers}
+use Rattle.flow_model.specs.declared.answer.Answer.TheVariants as answer
+use Rattle.flow_model.specs.declared.answer.Stop.{Stop}
 use Rattle.flow_lines.specs.Driving.{WritesBeginning}
 use Rattle.flow_cli.specs.Histories.{CausedUntold, CausedUnwritten}
 use Rattle.flow_cli.specs.Listings.{listing_written, runs_written, open_lines, page_lines, next_open, TellsOpen, ListsPage, TellsPage, IsUnlisted}
 use Rattle.flow_lines.specs.Replies.{open_run_text}
-use Rattle.flow_lines.proofs.Answering.{kept_appends, part_by}
+use Rattle.flow_cli.proofs.LinesWritten.{lines_joined}
 use Rattle.flow_cli.proofs.OpenPages.{behind, none_behind}
-
----- Line after line
-
-lines_joined : (xs ys : List OpenRun) → listing_written (xs ++ ys) ≡ listing_written xs ++ listing_written ys
-lines_joined [] ys = refl
-lines_joined (x ∷ xs) ys =
-    ap (λ l. (open_run_text x ++ 10 ∷ []) ++ l) (lines_joined xs ys) ∙ sym (append_assoc (open_run_text x ++ 10 ∷ []) (listing_written xs) (listing_written ys))
-
-one_line : (x : OpenRun) → listing_written (x ∷ []) ≡ open_run_text x ++ 10 ∷ []
-one_line x = append-nil (open_run_text x ++ 10 ∷ [])
-
--- one more open run was written
-pub one_more_listed : (old new new1 : Option (List ℕ)) (all : List OpenRun) (i : ℕ) (x : OpenRun) → i < length all → x ≡ get_or all i x → Appends old new (listing_written (take i all)) → Appends new new1 (open_run_text x ++ 10 ∷ []) → Appends old new1 (listing_written (take (i + 1) all))
-one_more_listed old new new1 all i x lt here adds more =
-    let now : take (i + 1) all ≡ take i all ++ x ∷ [] = take_more all i x lt ∙ ap (λ y. take i all ++ y ∷ []) (sym here) in
-    subst (Appends old new1) (sym (ap listing_written now ∙ lines_joined (take i all) (x ∷ []) ∙ ap (λ l. listing_written (take i all) ++ l) (one_line x)))
-    (Appends-trans old new new1 _ _ adds more)
-
--- a part of one more open run was written
-part_of_lines : (e : Fault) (old new new1 : Option (List ℕ)) (all done later : List OpenRun) (x : OpenRun) → all ≡ done ++ x ∷ later → Appends old new (listing_written done) → WritesPart e new new1 (open_run_text x ++ 10 ∷ []) → WritesBeginning old new1 (listing_written all)
-part_of_lines e old new new1 all done later x is adds w =
-    part_by e new new1 (open_run_text x ++ 10 ∷ []) (λ f. WritesBeginning old new1 (listing_written all)) w
-    (λ kept. record {
-      front = listing_written done;
-      back = listing_written (x ∷ later);
-      bytes_are = ap listing_written is ∙ lines_joined done (x ∷ later);
-      written_are = subst (Appends old new1) (append-nil (listing_written done)) (Appends-trans old new new1 _ _ adds (kept_appends new new1 kept));
-    })
-    (λ begun. record {
-      front = listing_written done ++ begun.front;
-      back = begun.back ++ listing_written later;
-      bytes_are =
-          ap listing_written is ∙ lines_joined done (x ∷ later)
-          ∙ ap (λ l. listing_written done ++ (l ++ listing_written later)) begun.bytes_are
-          ∙ ap (λ l. listing_written done ++ l) (append_assoc begun.front begun.back (listing_written later))
-          ∙ sym (append_assoc (listing_written done) begun.front (begun.back ++ listing_written later));
-      written_are = Appends-trans old new new1 _ _ adds begun.written_are;
-    })
-
-pub part_listed : (e : Fault) (old new new1 : Option (List ℕ)) (all : List OpenRun) (i : ℕ) (x : OpenRun) → i < length all → x ≡ get_or all i x → Appends old new (listing_written (take i all)) → WritesPart e new new1 (open_run_text x ++ 10 ∷ []) → WritesBeginning old new1 (listing_written all)
-part_listed e old new new1 all i x lt here adds w =
-    part_of_lines e old new new1 all (take i all) (drop (suc i) all) x
-    (sym (take-append-drop i all) ∙ ap (λ l. take i all ++ l) (drop-cons all i x lt ∙ ap (λ y. y ∷ drop (suc i) all) (sym here))) adds w
 
 ---- One question
 
@@ -117,7 +73,7 @@ none_begun old bytes = record { front = []; back = bytes; bytes_are = refl; writ
 
 module _ (u : Rules) (b : Book) where
   runs_joined : (xs ys : List (ℕ × Run)) → runs_written u b (xs ++ ys) ≡ runs_written u b xs ++ runs_written u b ys
-  runs_joined xs ys = ap listing_written (map-append (open_run_told u.program_of b) xs ys) ∙ lines_joined (map (open_run_told u.program_of b) xs) (map (open_run_told u.program_of b) ys)
+  runs_joined xs ys = ap listing_written (map-append (open_run_told u.program_of b) xs ys) ∙ lines_joined open_run_text (map (open_run_told u.program_of b) xs) (map (open_run_told u.program_of b) ys)
 
   cut_at : (from most : ℕ) → open_lines u b from ≡ page_lines u b from most ++ runs_written u b (drop most (open_runs b from))
   cut_at from most = ap (runs_written u b) (sym (take-append-drop most (open_runs b from))) ∙ runs_joined (take most (open_runs b from)) (drop most (open_runs b from))

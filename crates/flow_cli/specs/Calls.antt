@@ -13,52 +13,45 @@ use Rattle.std.specs.Str.Parse.{digits_value, without_leading_plus}
 abbrev pub needed : Text → Rule
 needed id = record (new_rule id) { required = true; action = Some Set }
 
-abbrev pub file : Rule
-file = needed (codes "FILE")
+-- a call with one such argument, or with two
+abbrev pub with_one : Text → Text → App
+with_one name id = with_rule (new_app name) (needed id)
+
+abbrev pub with_two : Text → Text → Text → App
+with_two name first second = with_rule (with_one name first) (needed second)
 
 abbrev pub check : App
-check = with_rule (new_app (codes "check")) file
-
-abbrev pub old_file : Rule
-old_file = needed (codes "OLD")
-
-abbrev pub new_file : Rule
-new_file = needed (codes "NEW")
+check = with_one (codes "check") (codes "FILE")
 
 abbrev pub safe : App
-safe = with_rule (with_rule (new_app (codes "safe")) old_file) new_file
+safe = with_two (codes "safe") (codes "OLD") (codes "NEW")
 
 abbrev pub settle : App
-settle = with_rule (with_rule (new_app (codes "settle")) old_file) new_file
-
-abbrev pub told : Rule
-told = needed (codes "HISTORY")
+settle = with_two (codes "settle") (codes "OLD") (codes "NEW")
 
 abbrev pub replay : App
-replay = with_rule (with_rule (new_app (codes "replay")) file) told
+replay = with_two (codes "replay") (codes "FILE") (codes "HISTORY")
 
-abbrev pub base : Rule
-base = needed (codes "DB")
+-- a call over a store
+abbrev pub over_base : Text → App
+over_base name = with_one name (codes "DB")
 
 -- how many commands are applied together; one where nothing is said
 abbrev pub batch : Rule
 batch = record (new_rule (codes "batch")) { long = Some (codes "batch"); defaults = codes "1" ∷ []; action = Some Set }
 
 abbrev pub drive : App
-drive = with_rule (with_rule (new_app (codes "drive")) base) batch
-
-abbrev pub run : Rule
-run = needed (codes "RUN")
+drive = with_rule (over_base (codes "drive")) batch
 
 abbrev pub history : App
-history = with_rule (with_rule (new_app (codes "history")) base) run
+history = with_two (codes "history") (codes "DB") (codes "RUN")
 
 abbrev pub verify : App
-verify = with_rule (new_app (codes "verify")) base
+verify = over_base (codes "verify")
 
 -- the call `open`
 abbrev pub listing : App
-listing = with_rule (new_app (codes "open")) base
+listing = over_base (codes "open")
 
 -- the file with the settings, which may be left out
 abbrev pub settings : Rule
@@ -69,10 +62,10 @@ abbrev pub leave_unknown : Rule
 leave_unknown = record (new_rule (codes "leave-unknown")) { long = Some (codes "leave-unknown"); action = Some SetTrue }
 
 abbrev pub work : App
-work = with_rule (with_rule (with_rule (new_app (codes "work")) base) settings) leave_unknown
+work = with_rule (with_rule (over_base (codes "work")) settings) leave_unknown
 
 abbrev pub serve : App
-serve = with_rule (with_rule (new_app (codes "serve")) base) settings
+serve = with_rule (over_base (codes "serve")) settings
 
 -- the program with the calls that check texts
 abbrev pub over_texts : App

@@ -7,6 +7,8 @@ pub mod Verdicts
 pub mod Changes
 pub mod Safety
 pub mod Settlements
+pub mod Telling
+pub mod Lines
 pub mod Histories
 pub mod Listings
 pub mod Ending

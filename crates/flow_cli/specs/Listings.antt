@@ -8,11 +8,11 @@ use Rattle.flow_base.specs.declared.command.Reply.TheVariants as reply
 use Rattle.flow_model.specs.Apply.{Rules, open_run_told, first_number}
 use Rattle.flow_model.specs.Book.{Book, open_runs}
 use Rattle.flow_lines.specs.Replies.{open_run_text}
+use Rattle.flow_cli.specs.Lines.{lines_written}
 
 -- each open run on a line of its own
 abbrev pub listing_written : List OpenRun → List ℕ
-listing_written [] = []
-listing_written (r ∷ later) = (open_run_text r ++ 10 ∷ []) ++ listing_written later
+listing_written rs = lines_written open_run_text rs
 
 abbrev pub runs_written : Rules → Book → List (ℕ × Run) → List ℕ
 runs_written u b rs = listing_written (map (open_run_told u.program_of b) rs)

@@ -3,7 +3,7 @@ ghost use Rattle.std.specs.Prelude.{◌≡◌, ◌⊎◌, IfOk, IfErr, false, ma
 ghost use Rattle.clap.specs.Words.{app_of, rule_of, found_of, rows_of, first_of, subcommand_rows_of};
 ghost use Rattle.clap.specs.declared.builder.command.Command.TheViews.{out-Command as fields_of};
 ghost use Rattle.clap.specs.declared.error.kind.ErrorKind.TheVariants.{OutOfMemory};
-ghost use Rattle.flow_cli.specs.Calls.{flow, answering, over_lines, over_files, over_texts, check, safe, settle, replay, drive, history, listing, verify, work, serve, settings, leave_unknown, needed, batch, run_in, batch_in, safe_in, settle_in, replay_in, drive_in, history_in, is_set, work_in, serve_in, named_call, IsCall};
+ghost use Rattle.flow_cli.specs.Calls.{flow, answering, over_lines, over_files, over_texts, with_one, with_two, drive, work, serve, settings, leave_unknown, needed, batch, run_in, batch_in, safe_in, settle_in, replay_in, drive_in, history_in, is_set, work_in, serve_in, named_call, IsCall};
 ghost use Rattle.flow_cli.specs.Calls.{Call as Pure};
 ghost use Rattle.flow_cli.specs.Shown.{shown};
 
@@ -65,43 +65,28 @@ fn needed_arg<'a>(alloc: Global, id: &'a str) -> Arg<'a>
     Arg::new(alloc, id).required(true).action(ArgAction::Set)
 }
 
-fn check_command<'a>(alloc: Global) -> Result<Command<'a>, AllocError>
-    ensures app { IfOk result (λ c. app_of c ≡ check) }
+/// A call with one argument, which has to be there.
+fn with_one<'a>(alloc: Global, name: &'a str, id: &'a str) -> Result<Command<'a>, AllocError>
+    ensures app { IfOk result (λ c. app_of c ≡ with_one name.entry.now id.entry.now) }
     ensures local { IfOk result (λ c. (fields_of c).has_globals ≡ false) }
 {
-    Ok(Command::new(alloc, "check").arg(needed_arg(alloc, "FILE"))?)
+    Ok(Command::new(alloc, name).arg(needed_arg(alloc, id))?)
 }
 
-fn safe_command<'a>(alloc: Global) -> Result<Command<'a>, AllocError>
-    ensures app { IfOk result (λ c. app_of c ≡ safe) }
+/// A call with two arguments, which have to be there.
+fn with_two<'a>(
+    alloc: Global,
+    name: &'a str,
+    first: &'a str,
+    second: &'a str,
+) -> Result<Command<'a>, AllocError>
+    ensures app { IfOk result (λ c. app_of c ≡ with_two name.entry.now first.entry.now second.entry.now) }
     ensures local { IfOk result (λ c. (fields_of c).has_globals ≡ false) }
 {
     Ok(
-        Command::new(alloc, "safe")
-            .arg(needed_arg(alloc, "OLD"))?
-            .arg(needed_arg(alloc, "NEW"))?,
-    )
-}
-
-fn settle_command<'a>(alloc: Global) -> Result<Command<'a>, AllocError>
-    ensures app { IfOk result (λ c. app_of c ≡ settle) }
-    ensures local { IfOk result (λ c. (fields_of c).has_globals ≡ false) }
-{
-    Ok(
-        Command::new(alloc, "settle")
-            .arg(needed_arg(alloc, "OLD"))?
-            .arg(needed_arg(alloc, "NEW"))?,
-    )
-}
-
-fn replay_command<'a>(alloc: Global) -> Result<Command<'a>, AllocError>
-    ensures app { IfOk result (λ c. app_of c ≡ replay) }
-    ensures local { IfOk result (λ c. (fields_of c).has_globals ≡ false) }
-{
-    Ok(
-        Command::new(alloc, "replay")
-            .arg(needed_arg(alloc, "FILE"))?
-            .arg(needed_arg(alloc, "HISTORY"))?,
+        Command::new(alloc, name)
+            .arg(needed_arg(alloc, first))?
+            .arg(needed_arg(alloc, second))?,
     )
 }
 
@@ -125,31 +110,6 @@ fn drive_command<'a>(alloc: Global) -> Result<Command<'a>, AllocError>
             .arg(needed_arg(alloc, "DB"))?
             .arg(batch_arg(alloc))?,
     )
-}
-
-fn history_command<'a>(alloc: Global) -> Result<Command<'a>, AllocError>
-    ensures app { IfOk result (λ c. app_of c ≡ history) }
-    ensures local { IfOk result (λ c. (fields_of c).has_globals ≡ false) }
-{
-    Ok(
-        Command::new(alloc, "history")
-            .arg(needed_arg(alloc, "DB"))?
-            .arg(needed_arg(alloc, "RUN"))?,
-    )
-}
-
-fn verify_command<'a>(alloc: Global) -> Result<Command<'a>, AllocError>
-    ensures app { IfOk result (λ c. app_of c ≡ verify) }
-    ensures local { IfOk result (λ c. (fields_of c).has_globals ≡ false) }
-{
-    Ok(Command::new(alloc, "verify").arg(needed_arg(alloc, "DB"))?)
-}
-
-fn open_command<'a>(alloc: Global) -> Result<Command<'a>, AllocError>
-    ensures app { IfOk result (λ c. app_of c ≡ listing) }
-    ensures local { IfOk result (λ c. (fields_of c).has_globals ≡ false) }
-{
-    Ok(Command::new(alloc, "open").arg(needed_arg(alloc, "DB"))?)
 }
 
 /// The file with the settings; it may be left out.
@@ -199,8 +159,8 @@ fn serve_command<'a>(alloc: Global) -> Result<Command<'a>, AllocError>
 fn text_command<'a>(alloc: Global) -> Result<Command<'a>, AllocError>
     ensures app { IfOk result (λ c. app_of c ≡ over_texts) }
 {
-    let check = check_command(alloc)?;
-    let safe = safe_command(alloc)?;
+    let check = with_one(alloc, "check", "FILE")?;
+    let safe = with_two(alloc, "safe", "OLD", "NEW")?;
     Ok(
         Command::new(alloc, "flow")
             .subcommand_required(true)
@@ -213,8 +173,8 @@ fn text_command<'a>(alloc: Global) -> Result<Command<'a>, AllocError>
 fn file_command<'a>(alloc: Global) -> Result<Command<'a>, AllocError>
     ensures app { IfOk result (λ c. app_of c ≡ over_files) }
 {
-    let settle = settle_command(alloc)?;
-    let replay = replay_command(alloc)?;
+    let settle = with_two(alloc, "settle", "OLD", "NEW")?;
+    let replay = with_two(alloc, "replay", "FILE", "HISTORY")?;
     let texts = text_command(alloc)?;
     Ok(texts.subcommand(settle)?.subcommand(replay)?)
 }
@@ -224,7 +184,7 @@ fn line_command<'a>(alloc: Global) -> Result<Command<'a>, AllocError>
     ensures app { IfOk result (λ c. app_of c ≡ over_lines) }
 {
     let drive = drive_command(alloc)?;
-    let history = history_command(alloc)?;
+    let history = with_two(alloc, "history", "DB", "RUN")?;
     let files = file_command(alloc)?;
     Ok(files.subcommand(drive)?.subcommand(history)?)
 }
@@ -233,8 +193,8 @@ fn line_command<'a>(alloc: Global) -> Result<Command<'a>, AllocError>
 fn answering_command<'a>(alloc: Global) -> Result<Command<'a>, AllocError>
     ensures app { IfOk result (λ c. app_of c ≡ answering) }
 {
-    let verify = verify_command(alloc)?;
-    let open = open_command(alloc)?;
+    let verify = with_one(alloc, "verify", "DB")?;
+    let open = with_one(alloc, "open", "DB")?;
     let lines = line_command(alloc)?;
     Ok(lines.subcommand(verify)?.subcommand(open)?)
 }

@@ -1,13 +1,10 @@
 //! What `flow check` says of a text.
-ghost use Rattle.std.specs.Prelude.{◌≡◌, ◌⊎◌, ◌++◌, ◌∷◌, [], Bool, IfOk, IfErr, string_bytes};
-ghost use Rattle.std.specs.Io.KnownBytes.{Appends};
-ghost use Rattle.flow_lines.specs.Answering.{WritesPart};
-ghost use Rattle.flow_lines.specs.Ends.{input_failed, output_failed};
-ghost use Rattle.flow_lines.specs.Faults.{fault_status};
-ghost use Rattle.flow_cli.specs.Places.{IsMarked};
+ghost use Rattle.std.specs.Prelude.{◌≡◌, IfOk, IfErr, string_bytes};
+ghost use Rattle.flow_cli.specs.Telling.{verdict_told, Tells};
 ghost use Rattle.flow_cli.specs.Verdicts.{verdict_mark, verdict_of, verdict_text, verdict_status};
 
-use crate::place::{mark, write_marked};
+use crate::place::mark;
+use crate::telling::tell;
 use flow_base::command::TextFault;
 use flow_base::fault::Fault;
 use flow_base::text::RawText;
@@ -73,7 +70,7 @@ pub fn check_text<T: Texts>(alloc: Global, texts: &T, text: &str) -> Result<Verd
 ///
 /// # Failure
 /// Each has the status 3: E01, and E95 where a write failed.
-#[tactic(auto, using(flow_lines::proofs::Endings::same_kept))]
+#[tactic(auto, using(crate::proofs::Tellings::untold))]
 pub fn tell_verdict<T: Texts, O: Output, P: Output>(
     alloc: Global,
     texts: &T,
@@ -81,25 +78,11 @@ pub fn tell_verdict<T: Texts, O: Output, P: Output>(
     errors: &mut P,
     text: &str,
 ) -> Result<u8, Fault>
-    ensures told { IfOk result (λ n. Appends (O.contents output.old) (O.contents output.new)
-        (verdict_text (verdict_of (T.meaning text.now)) ++ 10 ∷ [])) }
-    ensures status { IfOk result (λ n. n ≡ verdict_status (verdict_of (T.meaning text.now))) }
-    ensures stopped { IfErr result (λ e. WritesPart e (O.contents output.old) (O.contents output.new)
-        (verdict_text (verdict_of (T.meaning text.now)) ++ 10 ∷ [])) }
-    ensures early { IfErr result (λ e. fault_status e ≡ 3) }
-    // E95 where the output failed, and only there; else memory ran out.
-    ensures output { O.failed output.new ≡ output_failed result (O.failed output.old) }
-    ensures input { (before : Bool) → input_failed result before ≡ before }
-    ensures cause { IfErr result (λ e. (e ≡ Fault.NoMemory _) ⊎ (e ≡ Fault.OutputFailed)) }
-    ensures marked { IfOk result (λ n. IsMarked (P.contents errors.old) (P.contents errors.new) (P.failed errors.new)
-        (P.ran_out errors.new) (verdict_mark text.now (verdict_of (T.meaning text.now)))) }
-    ensures unmarked { IfErr result (λ e. errors.new ≡ errors.old) }
+    ensures { Tells O.Output P.Output (verdict_told text.now (verdict_of (T.meaning text.now))) output.old output.new errors.old
+        errors.new result }
 {
     let verdict = check_text(alloc, texts, text)?;
     let line = verdict.line(alloc)?;
     let marks = verdict.mark(alloc, text)?;
-    match write_marked(output, errors, line, marks.as_slice()) {
-        Ok(()) => Ok(verdict.status()),
-        Err(fault) => Err(fault),
-    }
+    tell(output, errors, line, marks.as_slice(), verdict.status())
 }

@@ -1,14 +1,7 @@
 //! Where in a text a byte is, and the line of it with a mark below.
-ghost use Rattle.std.specs.Prelude.{◌≡◌, ◌+◌, ◌-◌, ◌^◌, ◌<◌, ◌≤◌, ◌++◌, ◌∷◌, [], Bool, length, if◌then◌else◌, IfOk, IfErr, OnOk, string_bytes};
-ghost use Rattle.std.specs.Io.KnownBytes.{Appends};
-ghost use Rattle.flow_lines.specs.Answering.{WritesPart};
-ghost use Rattle.flow_lines.specs.Ends.{input_failed, output_failed};
-ghost use Rattle.flow_lines.specs.Faults.{fault_status};
-ghost use Rattle.flow_cli.specs.Places.{IsMarked, begins_char, between, blanks_of, first_line, mark_text, marked_line, spot_at, window_of};
+ghost use Rattle.std.specs.Prelude.{◌≡◌, ◌+◌, ◌-◌, ◌^◌, ◌<◌, ◌≤◌, [], length, if◌then◌else◌, IfOk};
+ghost use Rattle.flow_cli.specs.Places.{begins_char, between, blanks_of, first_line, mark_text, marked_line, spot_at, window_of};
 
-use flow_base::fault::Fault;
-use flow_lines::drive::write_text;
-use flow_lines::output::Output;
 use std::alloc::{AllocError, Global};
 
 /// The most characters of a line that is shown as a whole.
@@ -181,30 +174,4 @@ pub fn mark(alloc: Global, whose: &str, text: &str, at: usize) -> Result<Vec<u8>
     lines.extend_from_slice(place.as_bytes())?;
     lines.extend_from_slice(below.as_slice())?;
     Ok(lines)
-}
-
-/// Writes an answer as a line, and the marks that belong to it as errors. That these can't be written changes nothing.
-#[tactic(auto, using(crate::proofs::Marks::marked_by))]
-pub(crate) fn write_marked<O: Output, P: Output>(
-    output: &mut O,
-    errors: &mut P,
-    line: String,
-    marks: &[u8],
-) -> Result<(), Fault>
-    ensures all { OnOk result (Appends (O.contents output.old) (O.contents output.new) (string_bytes line ++ 10 ∷ [])) }
-    ensures stopped { IfErr result (λ f. WritesPart f (O.contents output.old) (O.contents output.new) (string_bytes line ++ 10 ∷ [])) }
-    ensures output { O.failed output.new ≡ output_failed result (O.failed output.old) }
-    ensures input { (before : Bool) → input_failed result before ≡ before }
-    ensures status { IfErr result (λ f. fault_status f ≡ 3) }
-    ensures marked { OnOk result (IsMarked (P.contents errors.old) (P.contents errors.new) (P.failed errors.new)
-        (P.ran_out errors.new) marks.now) }
-    ensures unmarked { IfErr result (λ f. errors.new ≡ errors.old) }
-{
-    match write_text(output, line) {
-        Ok(()) => {
-            let _marked = errors.put(marks);
-            Ok(())
-        }
-        Err(fault) => Err(fault),
-    }
 }

@@ -1,16 +1,13 @@
 //! What `flow safe` says of two texts.
-ghost use Rattle.std.specs.Prelude.{◌≡◌, ◌↔◌, ◌⊎◌, ◌++◌, ◌∷◌, [], Bool, IfOk, IfErr, string_bytes};
-ghost use Rattle.std.specs.Io.KnownBytes.{Appends};
+ghost use Rattle.std.specs.Prelude.{◌≡◌, ◌↔◌, IfOk, IfErr, string_bytes};
 ghost use Rattle.flow_model.specs.Checked.{shown_checked};
-ghost use Rattle.flow_lines.specs.Answering.{WritesPart};
-ghost use Rattle.flow_lines.specs.Ends.{input_failed, output_failed};
-ghost use Rattle.flow_lines.specs.Faults.{fault_status};
-ghost use Rattle.flow_cli.specs.Places.{IsMarked};
+ghost use Rattle.flow_cli.specs.Telling.{safety_told, Tells};
 ghost use Rattle.flow_cli.specs.Safety.{of_difference, safety_marks, safety_of, safety_status, safety_text, MeansWrap};
 ghost use Rattle.flow_patch.specs.Difference.{first_difference};
 
 use crate::change::{Broken, read_both};
-use crate::place::{mark, write_marked};
+use crate::place::mark;
+use crate::telling::tell;
 use flow_base::fault::Fault;
 use flow_lines::output::Output;
 use flow_model::checked::Checked;
@@ -95,7 +92,7 @@ pub fn compare_texts<T: Texts>(
 ///
 /// # Failure
 /// Each has the status 3: E01, and E95 where a write failed.
-#[tactic(auto, using(flow_lines::proofs::Endings::same_kept))]
+#[tactic(auto, using(crate::proofs::Tellings::untold))]
 pub fn tell_safety<T: Texts, O: Output, P: Output>(
     alloc: Global,
     texts: &T,
@@ -104,27 +101,13 @@ pub fn tell_safety<T: Texts, O: Output, P: Output>(
     old: &str,
     new: &str,
 ) -> Result<u8, Fault>
-    ensures told { IfOk result (λ n. Appends (O.contents output.old) (O.contents output.new)
-        (safety_text (safety_of (T.meaning old.now) (T.meaning new.now)) ++ 10 ∷ [])) }
-    ensures status { IfOk result (λ n. n ≡ safety_status (safety_of (T.meaning old.now) (T.meaning new.now))) }
+    ensures tells { Tells O.Output P.Output (safety_told old.now new.now (safety_of (T.meaning old.now) (T.meaning new.now)))
+        output.old output.new errors.old errors.new result }
     // The status is 0 exactly where both are programs and the new one wraps the old one.
     ensures safe { IfOk result (λ n. (n ≡ 0) ↔ MeansWrap (T.meaning old.now) (T.meaning new.now)) }
-    ensures stopped { IfErr result (λ e. WritesPart e (O.contents output.old) (O.contents output.new)
-        (safety_text (safety_of (T.meaning old.now) (T.meaning new.now)) ++ 10 ∷ [])) }
-    ensures early { IfErr result (λ e. fault_status e ≡ 3) }
-    // E95 where the output failed, and only there; else memory ran out.
-    ensures output { O.failed output.new ≡ output_failed result (O.failed output.old) }
-    ensures input { (before : Bool) → input_failed result before ≡ before }
-    ensures cause { IfErr result (λ e. (e ≡ Fault.NoMemory _) ⊎ (e ≡ Fault.OutputFailed)) }
-    ensures marked { IfOk result (λ n. IsMarked (P.contents errors.old) (P.contents errors.new) (P.failed errors.new)
-        (P.ran_out errors.new) (safety_marks old.now new.now (safety_of (T.meaning old.now) (T.meaning new.now)))) }
-    ensures unmarked { IfErr result (λ e. errors.new ≡ errors.old) }
 {
     let safety = compare_texts(alloc, texts, old, new)?;
     let lines = safety.lines(alloc)?;
     let marks = safety.marks(alloc, old, new)?;
-    match write_marked(output, errors, lines, marks.as_slice()) {
-        Ok(()) => Ok(safety.status()),
-        Err(fault) => Err(fault),
-    }
+    tell(output, errors, lines, marks.as_slice(), safety.status())
 }

@@ -1,19 +1,15 @@
 //! What `flow settle` says of two texts.
-ghost use Rattle.std.specs.Prelude.{◌≡◌, ◌↔◌, ◌⊎◌, ◌++◌, ◌∷◌, [], Bool, IfOk, IfErr, Ok, string_bytes};
-ghost use Rattle.std.specs.Io.KnownBytes.{Appends};
+ghost use Rattle.std.specs.Prelude.{◌≡◌, ◌↔◌, IfOk, IfErr, Ok, string_bytes};
 ghost use Rattle.serde_json.specs.Data.{string};
 ghost use Rattle.serde_json.specs.View.{view};
 ghost use Rattle.serde_json.specs.Written.{compact_text};
 ghost use Rattle.flow_model.specs.Checked.{shown_checked};
-ghost use Rattle.flow_lines.specs.Answering.{WritesPart};
-ghost use Rattle.flow_lines.specs.Ends.{input_failed, output_failed};
-ghost use Rattle.flow_lines.specs.Faults.{fault_status};
-ghost use Rattle.flow_cli.specs.Places.{IsMarked};
+ghost use Rattle.flow_cli.specs.Telling.{settlement_told, Tells};
 ghost use Rattle.flow_cli.specs.Settlements.{ids_out, settlement_marks, settlement_of, settlement_status, settlement_text, MeansSettled};
 
 use crate::change::{Broken, read_both};
-use crate::place::write_marked;
 use crate::safety::Safety;
+use crate::telling::tell;
 use flow_base::fault::Fault;
 use flow_base::sequence::Sequence;
 use flow_base::text::Key;
@@ -131,7 +127,7 @@ pub fn settle_texts<T: Texts>(
 ///
 /// # Failure
 /// Each has the status 3: E01, and E95 where a write failed.
-#[tactic(auto, using(flow_lines::proofs::Endings::same_kept))]
+#[tactic(auto, using(crate::proofs::Tellings::untold))]
 pub fn tell_settlement<T: Texts, O: Output, P: Output>(
     alloc: Global,
     texts: &T,
@@ -140,27 +136,14 @@ pub fn tell_settlement<T: Texts, O: Output, P: Output>(
     old: &str,
     new: &str,
 ) -> Result<u8, Fault>
-    ensures told { IfOk result (λ n. Appends (O.contents output.old) (O.contents output.new)
-        (settlement_text (settlement_of (T.meaning old.now) (T.meaning new.now)) ++ 10 ∷ [])) }
-    ensures status { IfOk result (λ n. n ≡ settlement_status (settlement_of (T.meaning old.now) (T.meaning new.now))) }
+    ensures tells { Tells O.Output P.Output
+        (settlement_told old.now new.now (settlement_of (T.meaning old.now) (T.meaning new.now)))
+        output.old output.new errors.old errors.new result }
     // The status is 0 exactly where both are programs and the new one is the old one with patches settled.
     ensures settles { IfOk result (λ n. (n ≡ 0) ↔ MeansSettled (T.meaning old.now) (T.meaning new.now)) }
-    ensures stopped { IfErr result (λ e. WritesPart e (O.contents output.old) (O.contents output.new)
-        (settlement_text (settlement_of (T.meaning old.now) (T.meaning new.now)) ++ 10 ∷ [])) }
-    ensures early { IfErr result (λ e. fault_status e ≡ 3) }
-    // E95 where the output failed, and only there; else memory ran out.
-    ensures output { O.failed output.new ≡ output_failed result (O.failed output.old) }
-    ensures input { (before : Bool) → input_failed result before ≡ before }
-    ensures cause { IfErr result (λ e. (e ≡ Fault.NoMemory _) ⊎ (e ≡ Fault.OutputFailed)) }
-    ensures marked { IfOk result (λ n. IsMarked (P.contents errors.old) (P.contents errors.new) (P.failed errors.new)
-        (P.ran_out errors.new) (settlement_marks old.now new.now (settlement_of (T.meaning old.now) (T.meaning new.now)))) }
-    ensures unmarked { IfErr result (λ e. errors.new ≡ errors.old) }
 {
     let settlement = settle_texts(alloc, texts, old, new)?;
     let lines = settlement.lines(alloc)?;
     let marks = settlement.marks(alloc, old, new)?;
-    match write_marked(output, errors, lines, marks.as_slice()) {
-        Ok(()) => Ok(settlement.status()),
-        Err(fault) => Err(fault),
-    }
+    tell(output, errors, lines, marks.as_slice(), settlement.status())
 }

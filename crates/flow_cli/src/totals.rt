@@ -6,10 +6,10 @@ ghost use Rattle.flow_lines.specs.Ends.{input_failed, output_failed};
 ghost use Rattle.flow_lines.specs.Faults.{fault_status};
 ghost use Rattle.flow_cli.specs.Totals.{totals_text};
 
+use flow_base::book::Totals;
 use flow_base::fault::Fault;
 use flow_lines::drive::write_text;
 use flow_lines::output::Output;
-use flow_machine::verify::Totals;
 use std::alloc::{AllocError, Global};
 
 /// The line of what a store holds, without its end.

@@ -17,7 +17,7 @@ use flow_lines::batch::BatchSize;
 use flow_lines::drive::drive_lines;
 use flow_lines::input::LineSource;
 use flow_lines::output::Output;
-use flow_machine::answer::Answering;
+use flow_model::answer::Answering;
 use std::alloc::Global;
 
 /// What is done over an open store.

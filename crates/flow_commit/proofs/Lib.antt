@@ -10,3 +10,4 @@ pub mod Refusing
 pub mod Handed
 pub mod Verified
 pub mod Drafts
+pub mod Calls

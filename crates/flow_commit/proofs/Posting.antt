@@ -5,7 +5,7 @@ use Rattle.std.specs.Ordering.{nat_cmp, is_eq, ordering_then}
 use Rattle.std.proofs.Common.{Ordering, Less, Equal, Greater}
 use Rattle.std.proofs.lemmas.Bool.{eqb-true, eq-eqb}
 use Rattle.std.proofs.lemmas.Cmp.{ranked, nat_cmp_total, tied_itself}
-use Rattle.flow_machine.specs.Keys.{Key}
+use Rattle.flow_base.specs.Keys.{Key}
 use Rattle.flow_commit.specs.Boards.{is_key, is_posted}
 
 both_are : (o p : Ordering) → is_eq (ordering_then o p) ≡ (is_eq o && is_eq p)

@@ -11,7 +11,7 @@ use Rattle.flow_view.specs.declared.fault.ViewFault.{ViewFault}
 use Rattle.flow_view.specs.declared.fault.ViewFault.TheVariants as view
 use Rattle.flow_base.specs.declared.fault.Fault.{Fault}
 use Rattle.flow_base.specs.declared.fault.Fault.TheVariants as faults
-use Rattle.flow_machine.specs.Keys.{Key}
+use Rattle.flow_base.specs.Keys.{Key}
 use Rattle.flow_commit.specs.Boards.{Boarded, IsBoardOf, draft_of, board_fault}
 use Rattle.flow_commit.specs.declared.waiting.Draft.{Draft}
 use Rattle.flow_commit.specs.Committing.{IsDown}

@@ -7,13 +7,13 @@ use Rattle.flow_check.specs.Language.{meaning_of}
 use Rattle.flow_model.specs.Book.{Book}
 use Rattle.flow_model.specs.Sound.{IsSound}
 use Rattle.flow_machine.specs.Verifying.{AllStand, AreTotals, CantBeReplayed, CausedUnverified, IsLeastMismatch, Names, UnlessRefused}
-use Rattle.flow_machine.specs.declared.verify.Totals.{Totals}
+use Rattle.flow_base.specs.declared.book.Totals.{Totals}
 use Rattle.flow_machine.specs.declared.verify.Unverified.{Unverified}
 use Rattle.flow_machine.specs.declared.verify.Unverified.TheVariants as unverified
 use Rattle.flow_machine.proofs.Replaying.{lacks_none, no_mismatch}
 use Rattle.flow_commit.specs.Boards.{IsOfBoard}
 use Rattle.flow_commit.specs.Keeping.{rules}
-use Rattle.flow_commit.specs.Verifying.{IsVerdict, IsVerified, verify_fault}
+use Rattle.flow_commit.specs.Verifying.{IsOfVerify, IsVerdict, IsVerified, verify_fault}
 
 -- what is found of the book that a transaction shows is found of the one that is kept
 pub verdict_on : (k b : Book) (r : Result Totals Unverified) (Sure : Type 0) → k ≡ b → IfOk r (λ t. Sure → AreTotals k t) → OnOk r (Sure → AllStand meaning_of k)
@@ -40,6 +40,11 @@ pub verified_as : (b : Book) (v : Unverified) (f : Fault) → f ≡ verify_fault
 verified_as b (unverified.NoMemory _) f is verdict = subst (λ (x : Fault). IsVerified b (Err x)) (sym is) tt
 verified_as b unverified.StoreRefused f is verdict = subst (λ (x : Fault). IsVerified b (Err x)) (sym is) tt
 verified_as b (unverified.Mismatch run place name) f is verdict = subst (λ (x : Fault). IsVerified b (Err x)) (sym is) verdict
+
+pub verify_among : (halted : Bool) (v : Unverified) (f : Fault) → f ≡ verify_fault v → IsOfVerify halted f
+verify_among halted (unverified.NoMemory _) f is = subst (IsOfVerify halted) (sym is) tt
+verify_among halted unverified.StoreRefused f is = subst (IsOfVerify halted) (sym is) tt
+verify_among halted (unverified.Mismatch run place name) f is = subst (IsOfVerify halted) (sym is) tt
 
 pub verify_cause : (v : Unverified) (f : Fault) (C : Type 0) → f ≡ verify_fault v → CausedUnverified {A = Totals} (Err v) C → f ≡ fault.StoreRefused → C
 verify_cause (unverified.NoMemory _) f C is why e = absurd (let clash = sym is ∙ e in cc)

@@ -3,8 +3,8 @@ use Rattle.std.specs.Prelude.{◌≡◌, ◌⊎◌, ℕ, Bool, false, List, [], 
 use Rattle.std.specs.Coded.{Coded, code_by, coded×, coded_ℕ, coded_bool, coded_list}
 use Rattle.flow_base.specs.contracts.book.Run as run_row
 use Rattle.flow_base.specs.declared.book.Run.{Run}
-use Rattle.flow_machine.specs.declared.submission.Receipt.{Receipt}
-use Rattle.flow_machine.specs.contracts.submission.Receipt as receipt_row
+use Rattle.flow_base.specs.declared.submission.Receipt.{Receipt}
+use Rattle.flow_base.specs.contracts.submission.Receipt as receipt_row
 use Rattle.flow_model.specs.Book.{Book, no_book}
 use Rattle.flow_sql.specs.Past.{HasPast}
 use Rattle.flow_tables.specs.Names.{State, HasTables, no_schema}

@@ -20,9 +20,9 @@ use Rattle.flow_view.specs.declared.head.Head.{Head}
 use Rattle.flow_view.specs.declared.fault.ViewFault.{ViewFault}
 use Rattle.flow_view.specs.declared.fault.ViewFault.TheVariants as view
 use Rattle.flow_commit.specs.declared.waiting.Draft.{Draft}
-use Rattle.flow_machine.specs.Keys.{Key, key_code}
-use Rattle.flow_machine.specs.declared.task.Task.{Task}
-use Rattle.flow_machine.specs.contracts.task.Task as task_row
+use Rattle.flow_base.specs.Keys.{Key, key_code}
+use Rattle.flow_base.specs.declared.task.Task.{Task}
+use Rattle.flow_base.specs.contracts.task.Task as task_row
 
 -- The tasks in order of run and event, the moment at which more is to be done, and how many runs are open; behind which commands it
 -- was made, by their number, and for contracts alone what was posted then.

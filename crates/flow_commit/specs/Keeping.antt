@@ -10,9 +10,9 @@ use Rattle.flow_commit.specs.Accounts.{Accounted, book_code, handed_in, log_code
 use Rattle.sqlite.specs.Held.{state}
 use Rattle.flow_model.specs.Apply.{Rules, rules_of, outcome, after, after_one, replies}
 use Rattle.flow_model.specs.Sound.{IsSound, IsOrderly}
-use Rattle.flow_machine.specs.declared.submission.Taken.{Taken}
-use Rattle.flow_machine.specs.declared.submission.Receipt.{Receipt}
-use Rattle.flow_machine.specs.contracts.submission.Taken as taken_row
+use Rattle.flow_base.specs.declared.submission.Taken.{Taken}
+use Rattle.flow_base.specs.declared.submission.Receipt.{Receipt}
+use Rattle.flow_base.specs.contracts.submission.Taken as taken_row
 use Rattle.flow_tables.specs.Owned as tables
 use Rattle.flow_tables.specs.Owned.{Stored, stored_code, state_of, Keeps, LeavesEither}
 

@@ -5,3 +5,4 @@ pub mod Stamps
 pub mod Boards
 pub mod Seating
 pub mod Verifying
+pub mod Calls

@@ -5,7 +5,7 @@ use Rattle.flow_base.specs.declared.fault.Fault.TheVariants as fault
 use Rattle.flow_check.specs.Language.{meaning_of}
 use Rattle.flow_model.specs.Book.{Book}
 use Rattle.flow_machine.specs.Verifying.{AllStand, AreTotals, IsLeastMismatch}
-use Rattle.flow_machine.specs.declared.verify.Totals.{Totals}
+use Rattle.flow_base.specs.declared.book.Totals.{Totals}
 use Rattle.flow_machine.specs.declared.verify.Unverified.{Unverified}
 use Rattle.flow_machine.specs.declared.verify.Unverified.TheVariants as unverified
 

@@ -1,7 +1,7 @@
 //! What is committed at once.
 ghost use Rattle.std.specs.Prelude.{◌≡◌, ◌≤◌, ◌∷◌, [], IfOk, IfErr, length};
 
-use flow_machine::submission::Taken;
+use flow_base::submission::Taken;
 use std::alloc::{AllocError, Global};
 use std::marker::Model;
 
@@ -13,7 +13,7 @@ pub struct Batch {
 
 impl Model for Batch {
     ghost use Rattle.std.specs.Prelude.{◌≤◌, List, length};
-    ghost use Rattle.flow_machine.specs.declared.submission.Taken.{Taken};
+    ghost use Rattle.flow_base.specs.declared.submission.Taken.{Taken};
     ghost use Rattle.flow_commit.specs.Keeping.{batch_code};
 
     ghost Value = { List Taken };

@@ -3,7 +3,7 @@ ghost use Rattle.std.specs.Prelude.{◌≡◌};
 
 use crate::waiting::Draft;
 use flow_base::number::Moment;
-use flow_machine::task::{Posted, Task};
+use flow_base::task::{Posted, Task};
 use std::collections::BTreeSet;
 use std::marker::Model;
 use unseen::{Listed, Makes};

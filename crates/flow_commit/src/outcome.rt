@@ -1,7 +1,7 @@
 //! How a commit has ended.
 use crate::batch::Batch;
 use crate::stamp::Stamp;
-use flow_machine::submission::Receipt;
+use flow_base::submission::Receipt;
 use flow_view::fault::ViewFault;
 
 /// What became of a batch. Where it isn't kept it comes back.

@@ -3,7 +3,7 @@ ghost use Rattle.std.specs.Prelude.{◌≡◌, ◌+◌, ◌<◌, ◌≤◌, ◌^
 ghost use Rattle.flow_commit.specs.Keeping.{receipt_with, receipts_with};
 
 use flow_base::command::Reply;
-use flow_machine::submission::{Receipt, Taken};
+use flow_base::submission::{Receipt, Taken};
 
 fn receipt(place: u64, taken: Taken, reply: Reply) -> Receipt
     ensures { result ≡ receipt_with place taken reply }

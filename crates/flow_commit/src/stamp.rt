@@ -3,7 +3,7 @@ ghost use Rattle.std.specs.Prelude.{◌≡◌};
 ghost use Rattle.flow_commit.specs.Stamps.{IsLawful};
 
 use crate::account::Account;
-use flow_machine::submission::Receipt;
+use flow_base::submission::Receipt;
 use std::marker::Model;
 use unseen::Listed;
 

@@ -9,8 +9,9 @@ ghost use Rattle.flow_commit.specs.Verifying.{IsVerdict};
 
 use crate::survey::roll_back;
 use crate::transaction::begin_anew;
+use flow_base::book::Totals;
 use flow_check::language::Language;
-use flow_machine::verify::{Totals, Unverified, verified};
+use flow_machine::verify::{Unverified, verified};
 use flow_programs::kept::Kept;
 use flow_tables::tables::Tables;
 use flow_view::fault::ViewFault;

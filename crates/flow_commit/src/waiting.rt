@@ -1,15 +1,17 @@
 //! Which open activities are to be posted, and when there is more to be done.
 ghost use Rattle.std.specs.Prelude.{◌≡◌, ◌++◌, IfOk, OnOk, filter};
-ghost use Rattle.flow_view.specs.Reading.{Caused, Reads};
+ghost use Rattle.flow_view.specs.Called.{Kept};
+ghost use Rattle.flow_view.specs.Reading.{Caused};
+ghost use Rattle.flow_tables.specs.Calls.{Recalled};
 ghost use Rattle.flow_commit.specs.Boards as rule;
 
 use flow_base::book::OpenActivity;
 use flow_base::event::{Cmd, Event, What, copy_values};
 use flow_base::number::{Moment, RunId};
 use flow_base::sequence::Sequence;
+use flow_base::task::{Posted, Task};
 use flow_base::text::Key;
 use flow_base::value::Value;
-use flow_machine::task::{Posted, Task};
 use flow_view::fault::ViewFault;
 use flow_view::head::Head;
 use flow_view::view::View;
@@ -101,13 +103,7 @@ fn call_at<V: View>(
     view: &mut V,
     entry: &Waiting,
 ) -> Result<Option<(Key, Sequence<Value>)>, ViewFault>
-    ensures reads { IfOk result (λ o. Reads (V.is_sure view.new) (V.book view.old) (V.book view.new) o
-        (rule.call_at (V.book view.old) entry.now.0 entry.now.1.event)) }
-    ensures cause { (a : V) → V.follows a view.old → V.is_true view.new → V.is_sure view.old → Caused result (V.refuses a view.new) }
-    ensures goes_on { OnOk result (V.is_true view.new → V.is_sure view.old → V.is_sure view.new) }
-    ensures sure { V.is_sure view.new → V.is_sure view.old }
-    ensures was_true { V.is_true view.new → V.is_true view.old }
-    ensures follows { (a : V) → V.follows a view.old → V.follows a view.new }
+    ensures { Recalled V.View view.old view.new result (λ b. rule.call_at b entry.now.0 entry.now.1.event) }
 {
     let event = view.event(entry.0, entry.1.event)?;
     match called_by(alloc, &event) {
@@ -136,13 +132,7 @@ fn flow_in(head: Option<Head>) -> Option<Key>
 
 /// The flow of an open activity's run.
 fn flow_at<V: View>(view: &mut V, entry: &Waiting) -> Result<Option<Key>, ViewFault>
-    ensures reads { IfOk result (λ o. Reads (V.is_sure view.new) (V.book view.old) (V.book view.new) o
-        (rule.flow_at (V.book view.old) entry.now.0)) }
-    ensures cause { (a : V) → V.follows a view.old → V.is_true view.new → V.is_sure view.old → Caused result (V.refuses a view.new) }
-    ensures goes_on { OnOk result (V.is_true view.new → V.is_sure view.old → V.is_sure view.new) }
-    ensures sure { V.is_sure view.new → V.is_sure view.old }
-    ensures was_true { V.is_true view.new → V.is_true view.old }
-    ensures follows { (a : V) → V.follows a view.old → V.follows a view.new }
+    ensures { Recalled V.View view.old view.new result (λ b. rule.flow_at b entry.now.0) }
 {
     let head = view.head(entry.0)?;
     Ok(flow_in(head))
@@ -182,10 +172,7 @@ fn add_ready<V: View>(
     ensures reads { OnOk result (V.is_sure view.new → (V.book view.new ≡ V.book view.old)
         × (list.new.items ≡ list.old.items ++ rule.task_at (V.book view.old) entry.now)) }
     ensures cause { (a : V) → V.follows a view.old → V.is_true view.new → V.is_sure view.old → Caused result (V.refuses a view.new) }
-    ensures goes_on { OnOk result (V.is_true view.new → V.is_sure view.old → V.is_sure view.new) }
-    ensures sure { V.is_sure view.new → V.is_sure view.old }
-    ensures was_true { V.is_true view.new → V.is_true view.old }
-    ensures follows { (a : V) → V.follows a view.old → V.follows a view.new }
+    ensures kept { Kept V.View view.old view.new result }
 {
     let flow = flow_at(view, entry)?;
     let call = call_at(alloc, view, entry)?;
@@ -201,13 +188,7 @@ pub(crate) fn tasks_of<V: View>(
     view: &mut V,
     wanted: &[Waiting],
 ) -> Result<Sequence<Task>, ViewFault>
-    ensures reads { IfOk result (λ v. Reads (V.is_sure view.new) (V.book view.old) (V.book view.new) v
-        (rule.tasks_of (V.book view.old) wanted.now)) }
-    ensures cause { (a : V) → V.follows a view.old → V.is_true view.new → V.is_sure view.old → Caused result (V.refuses a view.new) }
-    ensures goes_on { OnOk result (V.is_true view.new → V.is_sure view.old → V.is_sure view.new) }
-    ensures sure { V.is_sure view.new → V.is_sure view.old }
-    ensures was_true { V.is_true view.new → V.is_true view.old }
-    ensures follows { (a : V) → V.follows a view.old → V.follows a view.new }
+    ensures { Recalled V.View view.old view.new result (λ b. rule.tasks_of b wanted.now) }
 {
     let mut list = Vec::new(alloc);
     for entry in wanted {

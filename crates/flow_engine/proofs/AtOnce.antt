@@ -8,12 +8,12 @@ use Rattle.flow_base.specs.declared.command.Reply.{Reply}
 use Rattle.flow_model.specs.Apply.{after, replies}
 use Rattle.flow_model.specs.Book.{Book}
 use Rattle.flow_base.specs.declared.code.Code.TheVariants as code
-use Rattle.flow_machine.specs.Answers.{IsGivenUp}
-use Rattle.flow_machine.specs.declared.answer.Stop.{Stop}
-use Rattle.flow_machine.specs.declared.answer.Together.{Together}
-use Rattle.flow_machine.specs.declared.answer.Together.TheVariants as together
-use Rattle.flow_machine.specs.declared.submission.Taken.{Taken}
-use Rattle.flow_machine.specs.declared.submission.Receipt.{Receipt}
+use Rattle.flow_model.specs.Answers.{IsGivenUp}
+use Rattle.flow_model.specs.declared.answer.Stop.{Stop}
+use Rattle.flow_model.specs.declared.answer.Together.{Together}
+use Rattle.flow_model.specs.declared.answer.Together.TheVariants as together
+use Rattle.flow_base.specs.declared.submission.Taken.{Taken}
+use Rattle.flow_base.specs.declared.submission.Receipt.{Receipt}
 use Rattle.flow_tables.specs.Owned.{state_of, LeavesEither}
 use Rattle.flow_commit.specs.Keeping.{Keeping, rules, IsFit, IsUp, KeepsBook, kept_book, command_of, commands_of}
 use Rattle.flow_engine.specs.declared.done.Done.{Done}

@@ -9,10 +9,10 @@ use Rattle.flow_base.specs.declared.command.Command.{Command}
 use Rattle.flow_model.specs.Book.{Book}
 use Rattle.flow_model.specs.Apply.{after, after_one}
 use Rattle.flow_model.proofs.Logs.{after_cut}
-use Rattle.flow_machine.specs.Answers.{IsGivenUp}
-use Rattle.flow_machine.specs.declared.answer.Answer.{Answer}
-use Rattle.flow_machine.specs.declared.submission.Taken.{Taken}
-use Rattle.flow_machine.specs.declared.submission.Receipt.{Receipt}
+use Rattle.flow_model.specs.Answers.{IsGivenUp}
+use Rattle.flow_model.specs.declared.answer.Answer.{Answer}
+use Rattle.flow_base.specs.declared.submission.Taken.{Taken}
+use Rattle.flow_base.specs.declared.submission.Receipt.{Receipt}
 use Rattle.flow_view.specs.Codes.{view_fault_code}
 use Rattle.flow_view.specs.declared.fault.ViewFault.{ViewFault}
 use Rattle.flow_view.specs.declared.fault.ViewFault.TheVariants as fault

@@ -6,7 +6,7 @@ use Rattle.flow_base.specs.declared.command.Command.{Command}
 use Rattle.flow_model.specs.Book.{Book}
 use Rattle.flow_model.specs.Apply.{after}
 use Rattle.flow_model.proofs.Logs.{after_cut}
-use Rattle.flow_machine.specs.declared.submission.Taken.{Taken}
+use Rattle.flow_base.specs.declared.submission.Taken.{Taken}
 use Rattle.flow_tables.specs.Owned.{state_of, LeavesEither}
 use Rattle.flow_commit.specs.Keeping.{Keeping, rules, IsFit, KeepsBook, command_of, commands_of}
 use Rattle.flow_engine.specs.declared.done.Done.{Done}

@@ -11,8 +11,8 @@ use Rattle.flow_machine.proofs.Keeps.{after_keeps}
 use Rattle.flow_machine.proofs.Meaning.{reads_well_formed}
 use Rattle.flow_machine.proofs.Orderly.{orderly_after}
 use Rattle.sqlite.specs.Tree.{Trees}
-use Rattle.flow_machine.specs.declared.submission.Taken.{Taken}
-use Rattle.flow_machine.specs.declared.submission.Receipt.{Receipt}
+use Rattle.flow_base.specs.declared.submission.Taken.{Taken}
+use Rattle.flow_base.specs.declared.submission.Receipt.{Receipt}
 use Rattle.flow_tables.specs.Owned.{state_of, LeavesEither}
 use Rattle.flow_commit.specs.Keeping.{Keeping, rules, IsFit, IsUp, IsWell, KeepsBook, kept_book, HasKept, HasRefused, IsUnknown, command_of, commands_of, receipts_of}
 use Rattle.flow_engine.specs.declared.done.Done.{Done}

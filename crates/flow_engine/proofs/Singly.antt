@@ -12,13 +12,13 @@ use Rattle.flow_view.specs.Codes.{view_fault_code}
 use Rattle.flow_model.specs.Book.{Book}
 use Rattle.flow_model.specs.Apply.{after, after_one}
 use Rattle.flow_model.proofs.Logs.{after_cut}
-use Rattle.flow_machine.specs.Answers.{Answers, CausedAnswer}
-use Rattle.flow_machine.specs.declared.answer.Answer.{Answer}
-use Rattle.flow_machine.specs.declared.answer.Answer.TheVariants as answer
-use Rattle.flow_machine.specs.declared.answer.Stop.{Stop}
-use Rattle.flow_machine.specs.declared.answer.Stop.TheVariants as stop
-use Rattle.flow_machine.specs.declared.submission.Taken.{Taken}
-use Rattle.flow_machine.specs.declared.submission.Receipt.{Receipt}
+use Rattle.flow_model.specs.Answers.{Answers, CausedAnswer}
+use Rattle.flow_model.specs.declared.answer.Answer.{Answer}
+use Rattle.flow_model.specs.declared.answer.Answer.TheVariants as answer
+use Rattle.flow_model.specs.declared.answer.Stop.{Stop}
+use Rattle.flow_model.specs.declared.answer.Stop.TheVariants as stop
+use Rattle.flow_base.specs.declared.submission.Taken.{Taken}
+use Rattle.flow_base.specs.declared.submission.Receipt.{Receipt}
 use Rattle.flow_tables.specs.Owned.{state_of, LeavesEither}
 use Rattle.flow_commit.specs.Keeping.{Keeping, rules, IsFit, IsUp, KeepsBook, kept_book, command_of, commands_of}
 use Rattle.flow_engine.specs.declared.done.Done.{Done}

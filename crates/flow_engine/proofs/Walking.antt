@@ -8,8 +8,8 @@ use Rattle.std.proofs.lemmas.List.{length-map, map-append}
 use Rattle.std.proofs.lemmas.List.Elements.{Contains-append_left, Contains-append_right}
 use Rattle.sqlite_trees.specs.declared.store.Store.{Ghosts}
 use Rattle.flow_base.specs.declared.command.Command.{Command}
-use Rattle.flow_machine.specs.declared.submission.Taken.{Taken}
-use Rattle.flow_machine.specs.declared.submission.Receipt.{Receipt}
+use Rattle.flow_base.specs.declared.submission.Taken.{Taken}
+use Rattle.flow_base.specs.declared.submission.Receipt.{Receipt}
 use Rattle.flow_model.specs.Apply.{after, after_one, replies}
 use Rattle.flow_model.specs.Book.{Book}
 use Rattle.flow_model.specs.Logs.{Entry, entry, entered, its_command, commands_in, after_log, log_replies}

@@ -7,13 +7,13 @@ use Rattle.flow_model.specs.Book.{Book}
 use Rattle.flow_base.specs.declared.code.Code.{Code}
 use Rattle.flow_base.specs.declared.code.Code.TheVariants as code
 use Rattle.flow_view.specs.Codes.{view_fault_code}
-use Rattle.flow_machine.specs.Answers.{IsGivenUp}
-use Rattle.flow_machine.specs.declared.answer.Answer.{Answer}
-use Rattle.flow_machine.specs.declared.answer.Answer.TheVariants as answer
-use Rattle.flow_machine.specs.declared.answer.Stop.{Stop}
-use Rattle.flow_machine.specs.declared.answer.Stop.TheVariants as stop
-use Rattle.flow_machine.specs.declared.submission.Taken.{Taken}
-use Rattle.flow_machine.specs.declared.submission.Receipt.{Receipt}
+use Rattle.flow_model.specs.Answers.{IsGivenUp}
+use Rattle.flow_model.specs.declared.answer.Answer.{Answer}
+use Rattle.flow_model.specs.declared.answer.Answer.TheVariants as answer
+use Rattle.flow_model.specs.declared.answer.Stop.{Stop}
+use Rattle.flow_model.specs.declared.answer.Stop.TheVariants as stop
+use Rattle.flow_base.specs.declared.submission.Taken.{Taken}
+use Rattle.flow_base.specs.declared.submission.Receipt.{Receipt}
 use Rattle.flow_tables.specs.Owned.{state_of, LeavesEither}
 use Rattle.flow_commit.specs.Keeping.{Keeping, rules, IsFit, IsUp, KeepsBook, commands_of, kept_book}
 use Rattle.flow_engine.specs.Driving.{Runs, commands_in}

@@ -7,8 +7,8 @@ use Rattle.sqlite.specs.State.{HasCleanDisk}
 use Rattle.flow_base.specs.declared.command.Command.{Command}
 use Rattle.flow_base.specs.declared.fault.Fault.{Fault}
 use Rattle.flow_check.specs.Language.{meaning_of}
-use Rattle.flow_machine.specs.declared.submission.Taken.{Taken}
-use Rattle.flow_machine.specs.declared.submission.Receipt.{Receipt}
+use Rattle.flow_base.specs.declared.submission.Taken.{Taken}
+use Rattle.flow_base.specs.declared.submission.Receipt.{Receipt}
 use Rattle.flow_model.specs.Book.{Book, nth}
 use Rattle.flow_model.specs.Apply.{after, replies}
 use Rattle.flow_tables.specs.Opening.{IsOfStore, StopsOpening}

@@ -1,5 +1,6 @@
 -- What the opening of the engine gives, and why it is refused.
-use Rattle.std.specs.Prelude.{◌≡◌, ℕ, false, List, IsTrue}
+use Rattle.std.specs.Prelude.{◌≡◌, ℕ, false, List, [], IsTrue, Result, IfOk, IfErr, MatchResult}
+use Rattle.sqlite.specs.Tree.{Trees}
 use Rattle.sqlite_trees.specs.declared.store.Store.{Ghosts}
 use Rattle.sqlite.specs.State.{State, HasCleanDisk}
 use Rattle.sqlite.specs.Held.{Held, state}
@@ -11,13 +12,14 @@ use Rattle.flow_model.specs.Book.{Book}
 use Rattle.flow_tables.specs.Faults.{Since}
 use Rattle.flow_sql.specs.Past.{HasPast, past_tables}
 use Rattle.flow_tables.specs.Opening.{HasCause, HasFirstFormat, IsFirstDamage, IsOfRows, IsOfStore, IsOfTables, StopsTables}
-use Rattle.flow_tables.specs.Owned.{IsCurrent, IsFound, LeavesMade, state_of}
+use Rattle.flow_tables.specs.Owned.{IsCurrent, IsFileOf, IsFound, IsPastFileOf, Keeps, LeavesMade, state_of}
 use Rattle.flow_tables.specs.States.{HasTables}
 use Rattle.flow_tables.specs.Stored.{tables_in}
-use Rattle.flow_commit.specs.Keeping.{Keeping, IsFit, KeepsBook}
+use Rattle.flow_commit.specs.Keeping.{Keeping, IsFit, KeepsBook, kept_book}
 use Rattle.flow_recover.specs.declared.positions.Position.{Position}
 use Rattle.flow_recover.specs.Positions.{ArePositions, IsOpenRun, IsStanding}
-use Rattle.flow_recover.specs.Recovering.{HasNeitherFormat, HoldsSound, HoldsSoundBefore, IsLeft, IsOfRecovery, StillHolds}
+use Rattle.flow_recover.specs.Recovering.{HasNeitherFormat, HoldsSound, HoldsSoundBefore, IsLeft, IsOfRecovery, IsOpenedOver, StillHolds, WasRead}
+use Rattle.flow_engine.specs.Answering.{IsSure}
 
 -- each open run of the book stands under its text
 abbrev pub AllStand : Book → Type 0
@@ -83,3 +85,30 @@ pub record Opens {S : Type 0} (g : Ghosts S) (conn : Held S) (first : Keeping S)
   pub since : Since (state g conn) (state_of g first.stored)
   pub anew : (first.kept ≡ 0) × (first.halted ≡ false)
   pub found : IsFit g first → IsOpened g (state g conn) first
+
+-- What is said of an opening, whoever watches it.
+pub record OpeningSays {S : Type 0} (g : Ghosts S) (conn : Held S) (result : Result (Keeping S) (Fault × Held S)) : Type 0 where
+  pub opened : IfOk result (λ e. e.stored.opened ≡ conn)
+  pub anew : IfOk result (λ e. (e.kept ≡ 0) × (e.halted ≡ false))
+  -- Its history begins here, over the book that it keeps.
+  pub begins : IfOk result (λ e. (IsFit g e → KeepsBook g e e.found) × (e.log ≡ []))
+  -- A disk that has told no lie had told none before.
+  pub clean : IfOk result (λ e. HasCleanDisk (state_of g e.stored) → HasCleanDisk (state g conn))
+  -- No failure of the disk is forgotten, and the limit on the steps of a query stays, Ok or refused.
+  pub since : MatchResult result (λ e. Since (state g conn) (state_of g e.stored)) (λ e. Since (state g conn) (state g e.1))
+  pub rest : IfOk result (λ e. HasCleanDisk (state_of g e.stored) → (state_of g e.stored).in_transaction ≡ false)
+  pub found : IfOk result (λ e. IsFit g e → IsOpened g (state g conn) e)
+  -- Over any file: our format was read, or there was no such table, and it was made, or the first format was read.
+  pub format : IfOk result (λ e. HasCleanDisk (state_of g e.stored) → WasRead g (state g conn))
+  -- Over what a stop left of a book, or over a connection that was closed while it kept the book, it keeps that book again.
+  pub again : IfOk result (λ e. HasCleanDisk (state_of g e.stored) → (db : Trees) (b : Book) → IsFileOf db b
+      → (HasCleanDisk (state g conn) → IsOpenedOver (state g conn) db) → KeepsAgain g e b)
+  pub again_before : IfOk result (λ e. HasCleanDisk (state_of g e.stored) → (db : Trees) (b : Book) → IsPastFileOf db b
+      → (HasCleanDisk (state g conn) → IsOpenedOver (state g conn) db) → KeepsAgain g e b)
+  pub closed : IfOk result (λ e. HasCleanDisk (state_of g e.stored) → (b : Book)
+      → (HasCleanDisk (state g conn) → IsTrue (state g conn).is_open × Keeps (state g conn) b) → KeepsAgain g e b)
+  -- This is what a life has of its opening.
+  pub opens : IfOk result (λ e. Opens g conn e)
+  -- The book over which it answers first is the one that the store held.
+  pub book : IfOk result (λ e. IsSure g e → IsFound (state g conn) (kept_book g e))
+  pub refused : IfErr result (λ e. IsUnopened g (state g conn) (state g e.1) e.0)

@@ -6,12 +6,12 @@ use Rattle.flow_model.specs.Apply.{after, replies}
 use Rattle.flow_model.specs.Book.{Book}
 use Rattle.flow_base.specs.declared.code.Code.TheVariants as code
 use Rattle.flow_view.specs.Codes.{view_fault_code}
-use Rattle.flow_machine.specs.Answers.{AnswersTogether, CausedTogether, CountsTogether}
-use Rattle.flow_machine.specs.declared.answer.Stop.{Stop}
-use Rattle.flow_machine.specs.declared.answer.Stop.TheVariants as stop
-use Rattle.flow_machine.specs.declared.answer.Together.{Together}
-use Rattle.flow_machine.specs.declared.answer.Together.TheVariants as together
-use Rattle.flow_machine.specs.declared.submission.Taken.{Taken}
+use Rattle.flow_model.specs.Answers.{AnswersTogether, CausedTogether, CountsTogether}
+use Rattle.flow_model.specs.declared.answer.Stop.{Stop}
+use Rattle.flow_model.specs.declared.answer.Stop.TheVariants as stop
+use Rattle.flow_model.specs.declared.answer.Together.{Together}
+use Rattle.flow_model.specs.declared.answer.Together.TheVariants as together
+use Rattle.flow_base.specs.declared.submission.Taken.{Taken}
 use Rattle.flow_tables.specs.Owned.{state_of, LeavesEither}
 use Rattle.flow_commit.specs.Keeping.{Keeping, rules, IsFit, KeepsBook, commands_of, kept_book}
 use Rattle.flow_engine.specs.Answering.{IsSure, Follows, HasAnswered, HasStopped}

@@ -1,13 +1,16 @@
 //! Commands answered over a store that keeps them.
-ghost use Rattle.std.specs.Prelude.{◌≡◌, ◌∷◌, ◌++◌, ◌+◌, ◌≤◌, List, [], Some, None, IfOk, IfErr, OnOk, MatchResult, length, map, vec_len, vec_capacity};
+ghost use Rattle.std.specs.Prelude.{◌≡◌, ◌∷◌, ◌++◌, ◌+◌, ◌≤◌, List, [], Some, None, IfOk, IfErr, OnOk, MatchResult, length, map, vec_len};
+ghost use Rattle.std.specs.Prelude.{vec_capacity};
 ghost use Rattle.flow_model.specs.Book.{Book};
-ghost use Rattle.flow_machine.specs.Answers.{Answers, CausedAnswer};
-ghost use Rattle.flow_machine.specs.declared.submission.Receipt.{Receipt as AReceipt};
-ghost use Rattle.flow_machine.specs.declared.submission.Taken.{Taken as ATaken};
+ghost use Rattle.flow_model.specs.Answers.{Answers, CausedAnswer};
+ghost use Rattle.flow_base.specs.declared.submission.Receipt.{Receipt as AReceipt};
+ghost use Rattle.flow_base.specs.declared.submission.Taken.{Taken as ATaken};
 ghost use Rattle.flow_commit.specs.Keeping.{rules, IsFit, KeepsBook, commands_of, kept_book};
 ghost use Rattle.flow_commit.specs.Committing.{HasGoneOn};
 ghost use Rattle.flow_engine.specs.GivingUp.{GivesUp};
-ghost use Rattle.flow_engine.specs.Answering.{IsSure, Follows, HasAnswered, HasStopped, AnswersAll, AreCaused, KeepsAnswered, EndsEarly, LeavesBehind, AreAlone, AreCut, IsSingle, AreSingle, alone, given, first_stop, TellsStop, IsPart, IsPartUpTo};
+ghost use Rattle.flow_engine.specs.Answering.{IsSure, Follows, HasAnswered, HasStopped, AnswersAll, AreCaused, KeepsAnswered, EndsEarly};
+ghost use Rattle.flow_engine.specs.Answering.{LeavesBehind, AreAlone, AreCut, IsSingle, AreSingle, alone, given, first_stop, TellsStop};
+ghost use Rattle.flow_engine.specs.Answering.{IsPart, IsPartUpTo};
 
 use crate::done::{Done, Unanswered};
 use crate::drive::drive;
@@ -15,9 +18,9 @@ use crate::engine::Engine;
 use flow_base::code::Code;
 use flow_base::command::{Command, Reply};
 use flow_base::memory::NoMemory;
+use flow_base::submission::{Receipt, Taken};
 use flow_commit::batch::Batch;
-use flow_machine::answer::{Answer, Answering, Stop, Together};
-use flow_machine::submission::{Receipt, Taken};
+use flow_model::answer::{Answer, Answering, Stop, Together};
 use sqlite::Alter;
 use std::alloc::{AllocError, Global};
 
@@ -181,7 +184,8 @@ impl<S: Alter> Engine<S> {
         // while the connection is open.
         ensures answers { IfOk result (λ a. IsSure S.Store self.new
             → Answers rules (kept_book S.Store self.old) (kept_book S.Store self.new) command a) }
-        // It is given up with E01, or with E80 for a cause in what the engine is before and behind; the book is again the one in the tables.
+        // It is given up with E01, or with E80 for a cause in what the engine is before and behind; the book is again the one in the
+        // tables.
         ensures cause { IfOk result (λ a. CausedAnswer (GivesUp S.Store self.old self.new (kept_book S.Store self.old) (command ∷ [])) a) }
         ensures stopped { IfErr result (λ s. HasStopped self.old self.new s) }
         ensures unstopped { OnOk result (HasAnswered self.old self.new) }

@@ -1,7 +1,7 @@
 //! What becomes of batches, and of lists of commands.
 use flow_base::memory::NoMemory;
-use flow_machine::answer::{Answer, Stop};
-use flow_machine::submission::Receipt;
+use flow_base::submission::Receipt;
+use flow_model::answer::{Answer, Stop};
 use flow_view::fault::ViewFault;
 
 /// What became of a batch: how its commit has ended, without the batch and the stamp.

@@ -8,7 +8,8 @@ ghost use Rattle.flow_commit.specs.Committing.{HasGoneOn};
 ghost use Rattle.flow_engine.specs.Counting.{IsCounted};
 ghost use Rattle.flow_engine.specs.GivingUp.{AreGivenUp, IsGivenUpFor, WasRefused};
 ghost use Rattle.flow_engine.specs.declared.done.Done.TheVariants as dones;
-ghost use Rattle.flow_engine.specs.Driving.{HasDone, IsDoneFor, IsNoted, NotesAll, Drives, IsLeft, ReachesSound, ReachesWell, Runs, all_halted, kept_of, in_hand};
+ghost use Rattle.flow_engine.specs.Driving.{HasDone, IsDoneFor, IsNoted, NotesAll, Drives, IsLeft, ReachesSound, ReachesWell, Runs};
+ghost use Rattle.flow_engine.specs.Driving.{all_halted, kept_of, in_hand};
 
 use crate::done::Done;
 use crate::engine::Engine;

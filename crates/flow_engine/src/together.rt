@@ -2,8 +2,8 @@
 ghost use Rattle.std.specs.Prelude.{◌≡◌, ◌≤◌, ◌+◌, ◌∷◌, [], List, length, map, vec_len, vec_capacity, IfOk, IfErr, OnOk};
 ghost use Rattle.flow_model.specs.Book.{Book};
 ghost use Rattle.flow_model.specs.Apply.{after};
-ghost use Rattle.flow_machine.specs.Answers.{AnswersTogether, CausedTogether, CountsTogether};
-ghost use Rattle.flow_machine.specs.declared.submission.Taken.{Taken as ATaken};
+ghost use Rattle.flow_model.specs.Answers.{AnswersTogether, CausedTogether, CountsTogether};
+ghost use Rattle.flow_base.specs.declared.submission.Taken.{Taken as ATaken};
 ghost use Rattle.flow_tables.specs.Owned.{state_of, LeavesEither};
 ghost use Rattle.flow_commit.specs.Keeping.{rules, IsFit, KeepsBook, commands_of, kept_book};
 ghost use Rattle.flow_engine.specs.Answering.{IsSure, Follows, HasAnswered, HasStopped};
@@ -18,9 +18,9 @@ use crate::engine::Engine;
 use flow_base::code::Code;
 use flow_base::command::{Command, Reply};
 use flow_base::memory::NoMemory;
+use flow_base::submission::{Receipt, Taken};
 use flow_commit::batch::Batch;
-use flow_machine::answer::{Stop, Together};
-use flow_machine::submission::{Receipt, Taken};
+use flow_model::answer::{Stop, Together};
 use sqlite::Alter;
 use std::alloc::{AllocError, Global};
 

@@ -3,6 +3,7 @@ pub mod Lasting
 pub mod Growing
 pub mod Moves
 pub mod Lists
+pub mod Searching
 pub mod Sound
 pub mod Serving
 pub mod Waking

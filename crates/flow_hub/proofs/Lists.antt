@@ -1,10 +1,10 @@
 -- Tickets in order, and places in a history that grows.
-use Rattle.std.proofs.Common.{◌≡◌, ℕ, zero, suc, ◌+◌, ◌-◌, ◌≤◌, List, [], ◌∷◌, ◌++◌, length, map, Some, slice_get, refl, ap, sym, ◌∙◌, subst, arith, length-append, append_assoc, le_trans}
+use Rattle.std.proofs.Common.{◌≡◌, ℕ, zero, suc, ◌+◌, ◌-◌, ◌≤◌, List, [], ◌∷◌, ◌++◌, length, map, take, drop, Some, slice_get, refl, ap, sym, ◌∙◌, subst, arith, length-append, append_assoc, le_trans}
 use mathlib.Core.List.{IsPrefix}
 use Rattle.std.specs.Prelude.{All}
 use Rattle.std.proofs.lemmas.List.Elements.{All-nil, All-cons}
-use Rattle.flow_machine.specs.declared.submission.Receipt.{Receipt}
-use Rattle.flow_machine.specs.declared.submission.Taken.{Taken}
+use Rattle.flow_base.specs.declared.submission.Receipt.{Receipt}
+use Rattle.flow_base.specs.declared.submission.Taken.{Taken}
 use Rattle.flow_commit.specs.Keeping.{count_from, place_of}
 use Rattle.flow_commit.specs.Committing.{taken_of}
 use Rattle.flow_hub.specs.Asks.{Rises, tickets_in, tickets_of, takens_of, Stands}
@@ -55,6 +55,25 @@ rises-append a b c (x ∷ xs) ys p q = (p.0, rises-append (suc x) b c xs ys p.1 
 pub rises_higher : (a b c : ℕ) (xs : List ℕ) → b ≤ c → Rises a xs b → Rises a xs c
 rises_higher a b c [] le r = le_trans r le
 rises_higher a b c (x ∷ xs) le r = (r.0, rises_higher (suc x) b c xs le r.1)
+
+-- where the next ones come behind those that rise
+pub rises_on : {A : Type 0} (f : A → ℕ) (xs ys : List A) (first n now : ℕ) → Rises 0 (map f xs) first → map f ys ≡ count_from first n → first + n ≡ now → Rises 0 (map f (xs ++ ys)) now
+rises_on f xs ys first n now r next is =
+    let behind : Rises first (map f ys) (first + n) = subst (λ ts. Rises first ts (first + n)) (sym next) (rises_count first n) in
+    let all : Rises 0 (map f xs ++ map f ys) (first + n) = rises-append 0 first (first + n) (map f xs) (map f ys) r behind in
+    subst (λ m. Rises 0 (map f (xs ++ ys)) m) is (subst (λ ts. Rises 0 ts (first + n)) (sym (map-both f xs ys)) all)
+
+left_out : {A : Type 0} (f : A → ℕ) (a c : ℕ) (xs : List A) (k : ℕ) → Rises a (map f xs) c → Rises a (map f (take k xs ++ drop (suc k) xs)) c
+left_out f a c [] zero r = r
+left_out f a c [] (suc k) r = r
+left_out f a c (x ∷ xs) zero r = let least = r.0 in rises_lower a (suc (f x)) c (map f xs) (omega (arith, least)) r.1
+left_out f a c (x ∷ xs) (suc k) r = (r.0, left_out f (suc (f x)) c xs k r.1)
+
+-- where one of them is left out
+pub rises_without : {A : Type 0} (f : A → ℕ) (a c : ℕ) (xs ys : List A) (k : ℕ) → ys ≡ take k xs ++ drop (k + 1) xs → Rises a (map f xs) c → Rises a (map f ys) c
+rises_without f a c xs ys k e r =
+    let next : k + 1 ≡ suc k = omega arith in
+    subst (λ l. Rises a (map f l) c) (sym (e ∙ ap (λ n. take k xs ++ drop n xs) next)) (left_out f a c xs k r)
 
 pub tickets_same : (rs : List Receipt) → tickets_of rs ≡ tickets_in (takens_of rs)
 tickets_same [] = refl

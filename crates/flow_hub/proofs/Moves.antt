@@ -9,7 +9,7 @@ use Rattle.atomic_table.proofs.Lists.{at_set, at_snoc}
 use Rattle.flow_hub.specs.declared.known.HubFacts.{HubFacts}
 use Rattle.flow_hub.specs.declared.seats.Sight.{Sight}
 use Rattle.flow_hub.specs.Knowing.{nothing, IsBefore, IsSamePart, with_member}
-use Rattle.flow_hub.specs.Seating.{opener, nobody, Fits, IsApart, AreNumbered, Kept, Knows, owed_in, AreOwed, owed_after, IsOwing, added, adding, admitting, Adds, Admits, Looks, lent, keeps_left, handed_back, gives_none, gives_alone, member_none, member_alone, meeting, keeping, seeing}
+use Rattle.flow_hub.specs.Seating.{opener, nobody, Fits, IsApart, AreNumbered, Kept, Knows, owed_in, AreOwed, owed_after, IsOwing, added, adding, admitting, Adds, Admits, Looks, lent, keeps_left, handed_back, hands_left, handed_over, keeping, seeing}
 use Rattle.flow_hub.proofs.Growing.{before_self, before_trans, before_all, same_part, part_of, enrolls_on, enrolls_part, grows_by, part_by}
 
 off : false ≡ true → ⊥
@@ -135,14 +135,14 @@ numbers_next m m' by views w named unmet less (seat, all) = (
     grown n below = omega arith
 
 -- the seat has met another one, which is spent
-numbers_meet : (m by other : ℕ) (views : List Sight) (v u : Sight) → get_elem? views by ≡ some v → other ≢ by → get_elem? (set views by (meeting v u)) other ≡ some u
-    → AreNumbered m views → AreNumbered m (set (set views by (meeting v u)) other nobody)
-numbers_meet m by other views v u at away there (seat, all) = numbers_drop m other (set views by (meeting v u)) nobody refl (seat, seats_set m seat views by (meeting v u) (λ j x apart e. all j x e) ((all by v at).0, two))
+numbers_meet : (m by other : ℕ) (views : List Sight) (v u : Sight) → get_elem? views by ≡ some v → other ≢ by → get_elem? (set views by (lent v u)) other ≡ some u
+    → AreNumbered m views → AreNumbered m (set (set views by (lent v u)) other nobody)
+numbers_meet m by other views v u at away there (seat, all) = numbers_drop m other (set views by (lent v u)) nobody refl (seat, seats_set m seat views by (lent v u) (λ j x apart e. all j x e) ((all by v at).0, two))
   where
     theirs : IsSeat m seat other u
-    theirs = ⊎_elim (λ (t : (other ≡ by) × (meeting v u ≡ u)). absurd (away t.0)) (λ (t : (other ≢ by) × (get_elem? views other ≡ some u)). all other u t.1) (at_set views by other (meeting v u) u there)
+    theirs = ⊎_elim (λ (t : (other ≡ by) × (lent v u ≡ u)). absurd (away t.0)) (λ (t : (other ≢ by) × (get_elem? views other ≡ some u)). all other u t.1) (at_set views by other (lent v u) u there)
 
-    two : IsApart (meeting v u)
+    two : IsApart (lent v u)
     two n is mine = away (sym (theirs.0 n is).1 ∙ ((all by v at).0 n mine).1)
 
 ---- The steps
@@ -394,7 +394,7 @@ lends by v other u s h at apart there =
       now,
       h.4,
       fits_set a d e' now (set s.views by w) other nobody first (nobody_fits a d e' now other),
-      numbers_drop now.members other (set s.views by w) nobody refl (numbers_stay now.members now.members by s.views v w at refl (λ _. met_none w refl) (omega arith) h.6),
+      numbers_meet now.members by other s.views v u at apart there h.6,
       owes_both now s.views by other v w u at there refl h.7,
     )
   where
@@ -446,14 +446,14 @@ backs by v s h at =
       owes_moved now s.views by v w (handed_back v) at (omega arith) h.7,
     )
 
--- giving out goes to a seat of its own
-pub parts : (by : ℕ) (v : Sight) → Splits Kept by v (gives_none v) (gives_alone v)
+-- giving out goes to a seat of its own, with the number
+pub parts : (by : ℕ) (v : Sight) → Splits Kept by v (hands_left v) (handed_over v)
 parts by v s h at =
     let a = h.0 in
     let b = h.1 in
     let c = h.2 in
     let now = h.3 in
-    let w = gives_none v in
+    let w = hands_left v in
     let views' = set s.views by w in
     let mine = h.5 by v at in
     let d = pick v.gives (length views') c in
@@ -473,68 +473,20 @@ parts by v s h at =
       h.4,
       (λ j u e.
           ⊎_elim (others j u)
-          (λ (t : (j ≡ length views') × (gives_alone v ≡ u)).
+          (λ (t : (j ≡ length views') × (handed_over v ≡ u)).
           subst (λ (y : ℕ × Sight). Fits a b d now y.0 y.1) (λ i. (sym t.0 i, t.1 i)) (
             (λ k. absurd (off k)),
             (λ p. absurd (off p)),
             (λ g. (pick_then v.gives (length views') c g, (mine.2 g).1)),
             mine.3,
           ))
-          (at_end views' (gives_alone v) u j e)),
-      numbers_more now.members views' (gives_alone v) refl (numbers_stay now.members now.members by s.views v w at refl (λ _. met_none w refl) (omega arith) h.6),
-      owes_moved now s.views by v w (gives_alone v) at (omega arith) h.7,
-    )
-
--- the number goes to a seat of its own
-pub names : (by : ℕ) (v : Sight) → Splits Kept by v (member_none v) (member_alone v)
-names by v s h at =
-    let a = h.0 in
-    let b = h.1 in
-    let c = h.2 in
-    let now = h.3 in
-    let w = member_none v in
-    let views' = set s.views by w in
-    let mine = h.5 by v at in
-    let others : (j : ℕ) (u : Sight) → get_elem? views' j ≡ some u → Fits a b c now j u = fits_set a b c now s.views by w (λ j u apart e. h.5 j u e) mine in (
-      a,
-      b,
-      c,
-      now,
-      h.4,
-      (λ j u e.
-          ⊎_elim (others j u)
-          (λ (t : (j ≡ length views') × (member_alone v ≡ u)). subst (λ (y : ℕ × Sight). Fits a b c now y.0 y.1) (λ i. (sym t.0 i, t.1 i)) (
-            (λ k. absurd (off k)),
-            (λ p. absurd (off p)),
-            (λ g. absurd (off g)),
-            before_all now,
-          ))
-          (at_end views' (member_alone v) u j e)),
-      numbers_move now.members by s.views v w (member_alone v) at refl refl refl h.6,
-      owes_moved now s.views by v w (member_alone v) at (omega arith) h.7,
-    )
-
--- a seat has met another one, which is spent
-pub meets : (by : ℕ) (v : Sight) (other : ℕ) (u : Sight) → Joins Kept by v other u (meeting v u) nobody
-meets by v other u s h at apart there =
-    let a = h.0 in
-    let b = h.1 in
-    let c = h.2 in
-    let now = h.3 in
-    let w = meeting v u in
-    let first : (j : ℕ) (x : Sight) → get_elem? (set s.views by w) j ≡ some x → Fits a b c now j x = fits_set a b c now s.views by w (λ j x away e. h.5 j x e) (h.5 by v at) in (
-      a,
-      b,
-      c,
-      now,
-      h.4,
-      fits_set a b c now (set s.views by w) other nobody (λ j x away e. first j x e) (nobody_fits a b c now other),
-      numbers_meet now.members by other s.views v u at apart there h.6,
-      owes_both now s.views by other v w u at there refl h.7,
+          (at_end views' (handed_over v) u j e)),
+      numbers_move now.members by s.views v w (handed_over v) at refl refl refl h.6,
+      owes_moved now s.views by v w (handed_over v) at (omega arith) h.7,
     )
 
 -- what a seat learns that has met another one
-pub apart_of : (v u x w : Sight) → x ≡ meeting v u → w.member ≡ x.member → w.met ≡ x.met → IsApart w → (n : ℕ) → u.member ≡ Some n → v.member ≢ Some n
+pub apart_of : (v u x w : Sight) → x ≡ lent v u → w.member ≡ x.member → w.met ≡ x.met → IsApart w → (n : ℕ) → u.member ≡ Some n → v.member ≢ Some n
 apart_of v u x w is member met apart n theirs mine =
     apart n (met ∙ (ap (λ (y : Sight). y.met) is ∙ theirs)) (member ∙ (ap (λ (y : Sight). y.member) is ∙ mine))
 

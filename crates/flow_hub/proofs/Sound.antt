@@ -5,9 +5,9 @@ use Rattle.std.proofs.lemmas.List.{append-nil}
 use Rattle.std.proofs.lemmas.List.Elements.{All-append, All-weaker, All-push, All-head, All-tail, All-nil, All-cons, All-take, All-drop}
 use Rattle.flow_base.specs.declared.code.Code.{Code}
 use Rattle.flow_base.specs.declared.command.Command.{Command}
-use Rattle.flow_machine.specs.declared.submission.Receipt.{Receipt}
-use Rattle.flow_machine.specs.declared.submission.Taken.{Taken}
-use Rattle.flow_machine.specs.declared.task.Task.{Task}
+use Rattle.flow_base.specs.declared.submission.Receipt.{Receipt}
+use Rattle.flow_base.specs.declared.submission.Taken.{Taken}
+use Rattle.flow_base.specs.declared.task.Task.{Task}
 use Rattle.flow_commit.specs.Boards.{Boarded}
 use Rattle.flow_commit.specs.Keeping.{count_from, place_of}
 use Rattle.flow_commit.specs.Committing.{taken_of}
@@ -15,7 +15,7 @@ use Rattle.flow_commit.specs.Stamps.{Stamped, IsLawful}
 use Rattle.flow_hub.specs.declared.known.HubFacts.{HubFacts}
 use Rattle.flow_hub.specs.declared.known.BoardSummary.{BoardSummary}
 use Rattle.flow_queues.specs.declared.refused.Refused.{Refused}
-use Rattle.flow_hub.specs.Asks.{Rises, ticket_in, ticket_of, tickets_in, tickets_of, takens_of, IsAsked, IsOwn, IsGone, IsTold, Stands}
+use Rattle.flow_hub.specs.Asks.{ticket_in, ticket_of, ticket_gone, tickets_in, tickets_of, tickets_gone, takens_of, IsAsked, IsOwn, IsGone, IsTold, Stands}
 use Rattle.flow_queues.specs.Refusing.{refused_by}
 use Rattle.flow_hub.specs.Knowing.{IsSamePart, IsHistory, IsOver, answered_in, nothing, with_taken, with_published, with_refused, with_posted, with_skipped, with_given, with_ended}
 use Rattle.flow_hub.specs.Feeding.{HasGiven, IsIdle, given_with}
@@ -23,7 +23,7 @@ use Rattle.flow_queues.specs.Posting.{IsOnce, new_ones}
 use Rattle.flow_hub.specs.Halls.{Hall, IsSound, new_ask, submitted, took, published, refused_all, fetched_receipt, fetched_refusal, enrolled, closed, ended, posted_on, skipped, gave}
 use Rattle.flow_hub.specs.Publishing.{Answers, HasTaken, HasPublished, HasRefused, HasPosted, HasSkipped, HasEnded, IsAllTaken, IsDone}
 use Rattle.flow_queues.proofs.Once.{still_once}
-use Rattle.flow_hub.proofs.Lists.{map-both, length-mapped, from_same, long_same, count_from-next, count_split, rises_count, rises-append, rises_higher, tickets_same, get_front, get_next, stands_on, stand_next}
+use Rattle.flow_hub.proofs.Lists.{map-both, length-mapped, from_same, long_same, count_from-next, count_split, rises_higher, rises_on, rises_without, tickets_same, get_front, get_next, stands_on, stand_next}
 
 pub begins_sound : IsSound (record { known = nothing; waiting = []; answered = []; refused = []; given = 0; shares = 0; tasks = [] })
 begins_sound = record {
@@ -41,6 +41,8 @@ begins_sound = record {
   told = All-nil (IsTold []);
   queued = refl;
   once = tt;
+  rises = omega arith;
+  gone_rises = omega arith;
 }
 
 pub submits : (h : Hall) (c : Command) → IsSound h → IsSound (submitted h c)
@@ -71,6 +73,8 @@ submits h c s =
       told = s.told;
       queued = s.queued;
       once = s.once;
+      rises = s.rises;
+      gone_rises = s.gone_rises;
     }
 
 all_front : (P : Taken → Type 0) (xs ys : List Taken) → All P (xs ++ ys) → All P xs
@@ -104,6 +108,8 @@ takes h xs rest is s =
       told = s.told;
       queued = s.queued;
       once = s.once;
+      rises = s.rises;
+      gone_rises = s.gone_rises;
     }
 
 -- what the publisher's seat has of what was taken
@@ -152,23 +158,24 @@ same_answers k l stamp rs same a = record {
   over = subst (λ ks. IsOver ks (stamp.account ∷ [])) same.last a.over;
 }
 
--- the history that is published, by the stamp's keeper
-pub published_history : (h : Hall) (stamp : Stamped) (rs : List Receipt) → IsSound h → Answers h.known stamp rs → IsLawful stamp.account → IsHistory (with_published h.known stamp.account rs)
-published_history h stamp rs s a lawful =
+-- the receipts' tickets are the next ones
+next_tickets : (h : Hall) (stamp : Stamped) (rs : List Receipt) → IsSound h → Answers h.known stamp rs → tickets_of rs ≡ count_from (answered_in h.known) (length rs)
+next_tickets h stamp rs s a =
     let held = h.known.held in
-    let history = h.known.history in
     let first = answered_in h.known in
     let split = count_split ticket_in held h.waiting first (length h.waiting) s.order in
     let count : length held ≡ length rs = sym (ap length a.asked) ∙ length-mapped taken_of rs in
-    let tickets : tickets_of rs ≡ count_from first (length rs) = tickets_same rs ∙ (ap tickets_in a.asked ∙ (split.0 ∙ ap (count_from first) count)) in
-    let now : first + length rs ≡ answered_in (with_published h.known stamp.account rs) = omega (arith, length-append history rs) in
+    tickets_same rs ∙ (ap tickets_in a.asked ∙ (split.0 ∙ ap (count_from first) count))
+
+-- the history that is published, by the stamp's keeper
+pub published_history : (h : Hall) (stamp : Stamped) (rs : List Receipt) → IsSound h → Answers h.known stamp rs → IsLawful stamp.account → IsHistory (with_published h.known stamp.account rs)
+published_history h stamp rs s a lawful =
+    let history = h.known.history in
+    let first = answered_in h.known in
+    let now = answered_in (with_published h.known stamp.account rs) in
     record {
       kept = (sym a.log, lawful.legal);
-      rising =
-          subst (λ n. Rises 0 (tickets_of (history ++ rs)) n) now
-          (subst (λ ts. Rises 0 ts (first + length rs)) (sym (map-both ticket_of history rs))
-          (rises-append 0 first (first + length rs) (tickets_of history) (tickets_of rs) s.legal.rising
-          (subst (λ ts. Rises first ts (first + length rs)) (sym tickets) (rises_count first (length rs)))));
+      rising = rises_on ticket_of history rs first (length rs) now s.legal.rising (next_tickets h stamp rs s a) (omega (arith, length-append history rs));
     }
 
 pub publishes : (h : Hall) (stamp : Stamped) (rs : List Receipt) → IsSound h → Answers h.known stamp rs → IsLawful stamp.account → IsSound (published h stamp.account rs)
@@ -177,6 +184,7 @@ publishes h stamp rs s a lawful =
     let history = h.known.history in
     let asked = h.known.asked in
     let first = answered_in h.known in
+    let now = answered_in (with_published h.known stamp.account rs) in
     let split = count_split ticket_in held h.waiting first (length h.waiting) s.order in
     let count : length held ≡ length rs = sym (ap length a.asked) ∙ length-mapped taken_of rs in
     let longer : length (history ++ rs) ≡ length history + length rs = length-append history rs in
@@ -186,7 +194,7 @@ publishes h stamp rs s a lawful =
     let next : map place_of rs ≡ count_from (length history + 1) (length rs) = (count_split place_of history rs 1 (length rs) places).1 ∙ from_same (1 + length history) (length history + 1) (length rs) (omega arith) in
     record {
       legal = published_history h stamp rs s a lawful;
-      order = split.1 ∙ (from_same (first + length held) (answered_in (with_published h.known stamp.account rs)) (length h.waiting) (omega (arith, count, longer)) ∙ long_same (answered_in (with_published h.known stamp.account rs)) (length h.waiting) (0 + length h.waiting) (omega arith));
+      order = split.1 ∙ (from_same (first + length held) now (length h.waiting) (omega (arith, count, longer)) ∙ long_same now (length h.waiting) (0 + length h.waiting) (omega arith));
       counts = omega (arith, s.counts, count, longer);
       shared = s.shared;
       asked = s.asked;
@@ -201,6 +209,8 @@ publishes h stamp rs s a lawful =
       told = s.told;
       queued = s.queued;
       once = s.once;
+      rises = rises_on ticket_of h.answered rs first (length rs) now s.rises (next_tickets h stamp rs s a) (omega (arith, longer));
+      gone_rises = rises_higher 0 first now (tickets_gone h.refused) (omega (arith, longer)) s.gone_rises;
     }
 
 -- what the publisher's seat has of what was published
@@ -240,6 +250,8 @@ fetches h rs k e fewer s = record {
   told = s.told;
   queued = s.queued;
   once = s.once;
+  rises = rises_without ticket_of 0 (answered_in h.known) h.answered rs k e s.rises;
+  gone_rises = s.gone_rises;
 }
 
 -- one refusal fewer, which was fetched
@@ -259,6 +271,8 @@ lets_go h rs k e fewer s = record {
   told = All-without (IsTold h.known.refused) h.refused rs k e s.told;
   queued = s.queued;
   once = s.once;
+  rises = s.rises;
+  gone_rises = rises_without ticket_gone 0 (answered_in h.known) h.refused rs k e s.gone_rises;
 }
 
 refused_own : (asked : List Taken) (code : Code) (xs : List Taken) → All (IsAsked asked) xs → All (IsGone asked) (map (refused_by code) xs)
@@ -274,6 +288,10 @@ told_next [] told = All-nil (IsTold (told ++ []))
 told_next (r ∷ rs) told =
     let same : (told ++ r ∷ []) ++ rs ≡ told ++ r ∷ rs = append_assoc told (r ∷ []) rs in
     All-cons (IsTold (told ++ r ∷ rs)) r rs (record { at = length told; is = get_next told rs r }) (subst (λ l. All (IsTold l) rs) same (told_next rs (told ++ r ∷ [])))
+
+gone_same : (code : Code) (xs : List Taken) → tickets_gone (map (refused_by code) xs) ≡ tickets_in xs
+gone_same code [] = refl
+gone_same code (x ∷ xs) = ap (λ ts. x.ticket ∷ ts) (gone_same code xs)
 
 pub refuses : (h : Hall) (code : Code) → IsSound h → IsSound (refused_all h code)
 refuses h code s =
@@ -302,6 +320,8 @@ refuses h code s =
           (told_next more h.known.refused);
       queued = s.queued;
       once = s.once;
+      rises = rises_higher 0 first now (tickets_of h.answered) (omega (arith, longer)) s.rises;
+      gone_rises = rises_on ticket_gone h.refused more first (length held) now s.gone_rises (gone_same code held ∙ split.0) (omega (arith, count, longer));
     }
 
 -- what the publisher's seat has of what was refused
@@ -333,6 +353,8 @@ enrolls h s = record {
   told = s.told;
   queued = s.queued;
   once = s.once;
+  rises = s.rises;
+  gone_rises = s.gone_rises;
 }
 
 pub closes : (h : Hall) → IsSound h → IsSound (closed h)
@@ -351,6 +373,8 @@ closes h s = record {
   told = s.told;
   queued = s.queued;
   once = s.once;
+  rises = s.rises;
+  gone_rises = s.gone_rises;
 }
 
 pub ends : (h : Hall) → IsSound h → IsSound (ended h)
@@ -369,6 +393,8 @@ ends h s = record {
   told = s.told;
   queued = s.queued;
   once = s.once;
+  rises = s.rises;
+  gone_rises = s.gone_rises;
 }
 
 ---- Tasks
@@ -389,6 +415,8 @@ posts h ts outlook s = record {
   told = s.told;
   queued = ap (λ l. l ++ new_ones h.known.posted ts) s.queued ∙ append_assoc h.known.given h.tasks (new_ones h.known.posted ts);
   once = still_once h.known.posted ts s.once;
+  rises = s.rises;
+  gone_rises = s.gone_rises;
 }
 
 pub skips : (h : Hall) → IsSound h → IsSound (skipped h)
@@ -407,6 +435,8 @@ skips h s = record {
   told = s.told;
   queued = s.queued;
   once = s.once;
+  rises = s.rises;
+  gone_rises = s.gone_rises;
 }
 
 pub gives : (h : Hall) (t : Task) (rest : List Task) → h.tasks ≡ t ∷ rest → IsSound h → IsSound (gave h t rest)
@@ -425,6 +455,8 @@ gives h t rest is s = record {
   told = s.told;
   queued = s.queued ∙ (ap (λ l. h.known.given ++ l) is ∙ sym (append_assoc h.known.given (t ∷ []) rest));
   once = s.once;
+  rises = s.rises;
+  gone_rises = s.gone_rises;
 }
 
 -- what the publisher's seat has of what was posted

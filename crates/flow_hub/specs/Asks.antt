@@ -1,7 +1,7 @@
 -- Lists of submissions and receipts, by their parts.
 use Rattle.std.specs.Prelude.{ℕ, ◌-◌, ◌≤◌, ◌≡◌, List, [], ◌∷◌, suc, map, Some, slice_get}
-use Rattle.flow_machine.specs.declared.submission.Receipt.{Receipt}
-use Rattle.flow_machine.specs.declared.submission.Taken.{Taken}
+use Rattle.flow_base.specs.declared.submission.Receipt.{Receipt}
+use Rattle.flow_base.specs.declared.submission.Taken.{Taken}
 use Rattle.flow_commit.specs.Committing.{taken_of}
 use Rattle.flow_queues.specs.declared.refused.Refused.{Refused}
 
@@ -16,11 +16,17 @@ ticket_in t = t.ticket
 abbrev pub ticket_of : Receipt → ℕ
 ticket_of r = r.ticket
 
+abbrev pub ticket_gone : Refused → ℕ
+ticket_gone r = r.asked.ticket
+
 abbrev pub tickets_in : List Taken → List ℕ
 tickets_in ts = map ticket_in ts
 
 abbrev pub tickets_of : List Receipt → List ℕ
 tickets_of rs = map ticket_of rs
+
+abbrev pub tickets_gone : List Refused → List ℕ
+tickets_gone rs = map ticket_gone rs
 
 -- what was submitted, as the receipts repeat it
 abbrev pub takens_of : List Receipt → List Taken

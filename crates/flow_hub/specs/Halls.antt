@@ -3,15 +3,15 @@ use Rattle.std.specs.Prelude.{ℕ, ◌+◌, ◌≡◌, List, [], ◌∷◌, ◌+
 use Rattle.std.specs.Coded.{Coded, code_by, coded×, coded_ℕ}
 use Rattle.flow_base.specs.declared.code.Code.{Code}
 use Rattle.flow_base.specs.declared.command.Command.{Command}
-use Rattle.flow_machine.specs.declared.submission.Receipt.{Receipt}
-use Rattle.flow_machine.specs.declared.submission.Taken.{Taken}
-use Rattle.flow_machine.specs.declared.task.Task.{Task}
+use Rattle.flow_base.specs.declared.submission.Receipt.{Receipt}
+use Rattle.flow_base.specs.declared.submission.Taken.{Taken}
+use Rattle.flow_base.specs.declared.task.Task.{Task}
 use Rattle.flow_commit.specs.Accounts.{Accounted, log_code}
 use Rattle.flow_commit.specs.Keeping.{batch_code, count_from}
 use Rattle.flow_hub.specs.declared.known.HubFacts.{HubFacts}
 use Rattle.flow_hub.specs.declared.known.BoardSummary.{BoardSummary}
 use Rattle.flow_queues.specs.declared.refused.Refused.{Refused}
-use Rattle.flow_hub.specs.Asks.{tickets_in, IsAsked, IsOwn, IsGone, IsTold, Stands}
+use Rattle.flow_hub.specs.Asks.{Rises, tickets_in, tickets_of, tickets_gone, IsAsked, IsOwn, IsGone, IsTold, Stands}
 use Rattle.flow_queues.specs.Refusing.{refused_by}
 use Rattle.flow_hub.specs.Knowing.{IsHistory, answered_in, known_code, refusals_code, task_list_code, with_ask, with_taken, with_published, with_refused, with_fetched, with_member, with_closed, with_ended, with_posted, with_skipped, with_given}
 use Rattle.flow_queues.specs.Posting.{IsOnce, new_ones}
@@ -55,6 +55,8 @@ pub record IsSound (h : Hall) : Type 0 where
   pub told : All (IsTold h.known.refused) h.refused
   pub queued : h.known.posted ≡ h.known.given ++ h.tasks  -- what was posted was given out or waits for that
   pub once : IsOnce h.known.posted
+  pub rises : Rises 0 (tickets_of h.answered) (answered_in h.known)  -- the answers stand in the order of their tickets
+  pub gone_rises : Rises 0 (tickets_gone h.refused) (answered_in h.known)
 
 abbrev pub new_ask : Hall → Command → Taken
 new_ask h c = record { ticket = h.given; command = c }

@@ -3,10 +3,10 @@ use Rattle.std.specs.Prelude.{ℕ, ◌≡◌, ◌≤◌, ◌+◌, Bool, true, fa
 use Rattle.std.specs.Coded.{Coded, code_by, coded×, coded_ℕ, coded_bool, coded_list, coded_option}
 use mathlib.Core.List.{IsPrefix}
 use Rattle.flow_base.specs.declared.code.Code.{Code}
-use Rattle.flow_machine.specs.declared.submission.Receipt.{Receipt}
-use Rattle.flow_machine.specs.declared.submission.Taken.{Taken}
-use Rattle.flow_machine.specs.declared.task.Task.{Task}
-use Rattle.flow_machine.specs.contracts.task.Task as task_row
+use Rattle.flow_base.specs.declared.submission.Receipt.{Receipt}
+use Rattle.flow_base.specs.declared.submission.Taken.{Taken}
+use Rattle.flow_base.specs.declared.task.Task.{Task}
+use Rattle.flow_base.specs.contracts.task.Task as task_row
 use Rattle.flow_commit.specs.Keeping.{batch_code}
 use Rattle.flow_commit.specs.Accounts.{Accounted, account_code, log_code}
 use Rattle.flow_commit.specs.Stamps.{IsLegal}

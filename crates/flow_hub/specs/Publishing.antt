@@ -1,8 +1,8 @@
 -- What the publisher does.
 use Rattle.std.specs.Prelude.{◌≡◌, ◌+◌, true, false, List, [], ◌∷◌, ◌++◌, length, map, All, Some, None}
 use Rattle.flow_base.specs.declared.code.Code.{Code}
-use Rattle.flow_machine.specs.declared.submission.Receipt.{Receipt}
-use Rattle.flow_machine.specs.declared.submission.Taken.{Taken}
+use Rattle.flow_base.specs.declared.submission.Receipt.{Receipt}
+use Rattle.flow_base.specs.declared.submission.Taken.{Taken}
 use Rattle.flow_commit.specs.Accounts.{Accounted}
 use Rattle.flow_commit.specs.Keeping.{count_from}
 use Rattle.flow_commit.specs.Stamps.{Stamped}

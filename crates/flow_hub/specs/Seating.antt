@@ -112,8 +112,9 @@ abbrev pub Looks : Step HubFacts → Me HubFacts Sight → ℕ → Me HubFacts S
 Looks s v n w = (w.0.keeps ≡ v.0.keeps) × (w.0.pubs ≡ v.0.pubs) × (w.0.gives ≡ v.0.gives) × (w.1 ≡ v.1) × IsBefore v.0.was w.0.was × (length w.0.was.history ≡ n)
     × (w.0.member ≡ v.0.member) × (w.0.met ≡ v.0.met) × (w.0.owed ≡ v.0.owed) × IsApart w.0
 
+-- A seat takes in what another saw, what is owed to it and whether it publishes and gives out. The other is spent, and its number noted.
 abbrev pub lent : Sight → Sight → Sight
-lent v w = record { keeps = v.keeps; pubs = w.pubs; gives = w.gives; member = v.member; met = None; owed = v.owed + w.owed; all = v.all; was = w.was }
+lent v w = record { keeps = v.keeps; pubs = w.pubs; gives = w.gives; member = v.member; met = w.member; owed = v.owed + w.owed; all = v.all; was = w.was }
 
 abbrev pub keeps_left : Sight → Sight
 keeps_left v = record { keeps = v.keeps; pubs = false; gives = false; member = None; met = None; owed = 0; all = v.all; was = nothing }
@@ -121,27 +122,12 @@ keeps_left v = record { keeps = v.keeps; pubs = false; gives = false; member = N
 abbrev pub handed_back : Sight → Sight
 handed_back v = record { keeps = false; pubs = v.pubs; gives = v.gives; member = None; met = None; owed = v.owed; all = nothing; was = v.was }
 
--- what is left of the one that gives out where this goes to a seat of its own
-abbrev pub gives_none : Sight → Sight
-gives_none v = record { keeps = v.keeps; pubs = v.pubs; gives = false; member = v.member; met = None; owed = v.owed; all = v.all; was = v.was }
+-- what is left of a seat when giving out, and the number of a submitter, go to a seat of their own
+abbrev pub hands_left : Sight → Sight
+hands_left v = record { keeps = v.keeps; pubs = v.pubs; gives = false; member = None; met = None; owed = v.owed; all = v.all; was = v.was }
 
-abbrev pub gives_alone : Sight → Sight
-gives_alone v = record { keeps = false; pubs = false; gives = v.gives; member = None; met = None; owed = 0; all = nothing; was = v.was }
-
--- the same of a submitter's number
-abbrev pub member_none : Sight → Sight
-member_none v = record { keeps = v.keeps; pubs = v.pubs; gives = v.gives; member = None; met = None; owed = v.owed; all = v.all; was = v.was }
-
-abbrev pub member_alone : Sight → Sight
-member_alone v = record { keeps = false; pubs = false; gives = false; member = v.member; met = None; owed = 0; all = nothing; was = nothing }
-
--- a seat has met another one, which is spent
-abbrev pub meeting : Sight → Sight → Sight
-meeting v w = record { keeps = v.keeps; pubs = v.pubs; gives = v.gives; member = v.member; met = w.member; owed = v.owed + w.owed; all = v.all; was = v.was }
-
--- the seat that has a submitter's number, and has seen nothing
-abbrev pub badge_of : ℕ → Sight
-badge_of n = record { keeps = false; pubs = false; gives = false; member = Some n; met = None; owed = 0; all = nothing; was = nothing }
+abbrev pub handed_over : Sight → Sight
+handed_over v = record { keeps = false; pubs = false; gives = v.gives; member = v.member; met = None; owed = 0; all = nothing; was = v.was }
 
 -- the seat under the lock, which knows all
 abbrev pub keeping : HubFacts → Sight

@@ -1,5 +1,5 @@
 //! What came of asking for a task.
-use flow_machine::task::Task;
+use flow_base::task::Task;
 
 /// What came of asking for a task, by one who has more to do than to hand tasks on.
 #[derive(Debug, Drop)]

@@ -8,7 +8,7 @@ ghost use Rattle.flow_hub.specs.Seating.{IsGivers};
 use crate::fed::{Fed, Until};
 use crate::hub::{Shared, shared_in};
 use crate::seats::{Pass, Room};
-use flow_machine::task::Task;
+use flow_base::task::Task;
 use std::marker::Model;
 use std::sync::{Arc, Wait};
 

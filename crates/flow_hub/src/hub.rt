@@ -1,17 +1,18 @@
 //! The hub: what its threads share.
-ghost use Rattle.std.specs.Prelude.{◌≡◌, ◌+◌, [], IfOk, IfSome};
+ghost use Rattle.std.specs.Prelude.{◌≡◌, ◌+◌, [], true, IfOk, IfSome};
 ghost use Rattle.flow_hub.specs.Knowing.{nothing};
 ghost use Rattle.flow_hub.specs.Seating.{IsRoomOf};
 
 use crate::denied::Unseated;
 use crate::feed::Feed;
 use crate::publisher::Publisher;
-use crate::seats::{HubTable, Opened, Room};
+use crate::seats::{HubTable, Opened, Pass, Room};
 use crate::state::{MOST, State};
 use crate::submitter::Submitter;
 use crate::waits::Waits;
 use flow_base::memory::NoMemory;
 use std::alloc::{AllocError, Global};
+use std::marker::Model;
 use std::sync::{Arc, Condvar, Mutex, MutexGuard, Wait};
 
 /// What the threads of a hub share.
@@ -54,6 +55,23 @@ impl<B: Room> Shared<B> {
 #[derive(Drop)]
 pub(crate) struct Closer {
     made: (),
+}
+
+/// What was seen of a hub when it was closed. To a contract it is that. No other module makes one, so a call that gives it has looked.
+#[derive(Drop)]
+pub struct SeenClosed<B: Room> {
+    seat: Pass<B>,
+}
+
+impl<B: Room> Model for SeenClosed<B> {
+    ghost use Rattle.flow_hub.specs.declared.known.HubFacts.{HubFacts};
+    ghost use Rattle.flow_hub.specs.Knowing.{known_code};
+
+    ghost Value = { HubFacts };
+
+    ghost coded = { known_code };
+
+    ghost view = { λ s. s.seat.was };
 }
 
 /// Takes commands from submitters on many threads, for one publisher, who answers them.
@@ -137,11 +155,14 @@ impl<B: Room> Hub<B> {
     }
 
     /// Nothing more is taken in, what waits is still taken, and who waits is woken.
-    pub fn close<R: Wait>(&self, rt: &R) {
+    pub fn close<R: Wait>(&self, rt: &R) -> SeenClosed<B>
+        ensures { result.closed ≡ true }
+    {
         let shared = shared_in(&self.shared);
         let me = shared.seats.enter();
-        shared.lock(rt).close(&shared.seats, me, &self.closer);
+        let seat = shared.lock(rt).close(&shared.seats, me, &self.closer);
         shared.wake();
+        SeenClosed { seat }
     }
 
     /// Lets go of it. The proof of how all its parts are let go of is here, and not in the crate of who calls.

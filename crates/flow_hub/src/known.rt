@@ -5,10 +5,10 @@ ghost use Rattle.flow_queues.specs.Posting.{chosen};
 
 use flow_base::code::Code;
 use flow_base::number::Moment;
+use flow_base::submission::{Receipt, Taken};
+use flow_base::task::Task;
 use flow_commit::account::Account;
 use flow_commit::stamp::Stamp;
-use flow_machine::submission::{Receipt, Taken};
-use flow_machine::task::Task;
 use flow_queues::refused::Refused;
 use unseen::{Listed, Makes};
 

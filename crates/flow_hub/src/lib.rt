@@ -13,4 +13,5 @@ pub mod settled;
 mod state;
 pub mod submitter;
 pub mod ticket;
+mod unfetched;
 mod waits;

@@ -1,7 +1,8 @@
 //! The table of the published word, and its seats.
-ghost use Rattle.std.specs.Prelude.{ℕ, ◌≡◌, ◌≢◌, ◌+◌, ◌≤◌, ◌^◌, ◌⊎◌, true, false, length, Some, IfOk};
+ghost use Rattle.std.specs.Prelude.{ℕ, ◌≡◌, ◌≢◌, ◌+◌, ◌≤◌, ◌^◌, ◌⊎◌, true, length, Some, IfOk};
+ghost use Rattle.atomic_table.specs.Table.{Splits};
 ghost use Rattle.flow_hub.specs.Knowing.{IsBefore, IsSamePart, with_member};
-ghost use Rattle.flow_hub.specs.Seating.{IsRoomOf, opener, nobody, lent, adding, admitting, keeps_left, handed_back, gives_none, gives_alone, member_none, member_alone, meeting, badge_of, keeping, seeing, owed_after, IsApart, IsKeepers, IsOwing, Knows};
+ghost use Rattle.flow_hub.specs.Seating.{IsRoomOf, Kept, opener, nobody, lent, adding, admitting, keeps_left, handed_back, hands_left, handed_over, keeping, seeing, owed_after, IsApart, IsKeepers, IsOwing, Knows};
 
 use crate::known::HubFacts;
 use atomic_table::{Join, Play, Seat, Split, Table, TableRule};
@@ -112,31 +113,11 @@ impl Split<Sight> for Back {
 struct Hands;
 
 impl Split<Sight> for Hands {
-    ghost use Rattle.flow_hub.specs.Seating.{gives_none, gives_alone};
+    ghost use Rattle.flow_hub.specs.Seating.{hands_left, handed_over};
 
-    ghost left = { gives_none };
+    ghost left = { hands_left };
 
-    ghost right = { gives_alone };
-}
-
-struct Meet;
-
-impl Join<Sight> for Meet {
-    ghost use Rattle.flow_hub.specs.Seating.{meeting, nobody};
-
-    ghost both = { meeting };
-
-    ghost spent = { nobody };
-}
-
-struct Names;
-
-impl Split<Sight> for Names {
-    ghost use Rattle.flow_hub.specs.Seating.{member_none, member_alone};
-
-    ghost left = { member_none };
-
-    ghost right = { member_alone };
+    ghost right = { handed_over };
 }
 
 /// What a hub is made of before it has a name. `Hub::new` takes it under the one that its caller has picked.
@@ -199,8 +180,10 @@ pub(crate) struct Named<B: Room> {
 }
 
 impl Opened {
-    /// A table and a ledger of their own.
-    pub fn new(alloc: Global) -> Result<Opened, AllocError> {
+    /// A table of one word and no place for a value, and a ledger with a part for each submitter.
+    pub fn new(alloc: Global) -> Result<Opened, AllocError>
+        ensures { IfOk result (λ o. (o.table.words ≡ 1) × (o.table.slots ≡ 0) × (o.parts ≡ 2 ^ 62)) }
+    {
         let (table, seat) = Table::of_words(alloc, &[0], &())?;
         Ok(Opened {
             table,
@@ -265,34 +248,38 @@ impl<B: Room> HubTable<B> {
         self.table.shared.load::<Look>(&mut me.seat, 0)
     }
 
-    /// The seat under the lock is lent what another saw.
-    fn lend(&self, keeper: &mut Pass<B>, other: Pass<B>)
-        ensures { keeper.new ≡ lent keeper.old other }
+    /// A part of what one seat has goes to a seat of its own.
+    fn split<M: Split<Sight>>(&self, mine: &mut Pass<B>) -> Pass<B>
+        requires may { (by : ℕ) → Splits Kept by mine.old (M.left mine.old) (M.right mine.old) }
+        ensures { (mine.new ≡ M.left mine.old) × (result ≡ M.right mine.old) }
+    {
+        let seat = self.table.shared.split_seat::<M>(&mut mine.seat);
+        Pass {
+            seat,
+            of: PhantomData,
+        }
+    }
+
+    /// A seat is lent what another saw, which is spent.
+    fn lend(&self, mine: &mut Pass<B>, other: Pass<B>)
+        ensures { mine.new ≡ lent mine.old other }
     {
         let Pass { seat, of: _ } = other;
-        self.table.shared.join_seat::<Lend>(&mut keeper.seat, seat);
+        self.table.shared.join_seat::<Lend>(&mut mine.seat, seat);
     }
 
     /// What was lent goes back.
     pub(crate) fn back(&self, keeper: &mut Pass<B>) -> Pass<B>
         ensures { (keeper.new ≡ keeps_left keeper.old) × (result ≡ handed_back keeper.old) }
     {
-        let seat = self.table.shared.split_seat::<Back>(&mut keeper.seat);
-        Pass {
-            seat,
-            of: PhantomData,
-        }
+        self.split::<Back>(keeper)
     }
 
-    /// Giving out goes to a seat of its own.
+    /// Giving out goes to a seat of its own, with the number of a submitter if there is one.
     pub(crate) fn hands(&self, keeper: &mut Pass<B>) -> Pass<B>
-        ensures { (keeper.new ≡ gives_none keeper.old) × (result ≡ gives_alone keeper.old) }
+        ensures { (keeper.new ≡ hands_left keeper.old) × (result ≡ handed_over keeper.old) }
     {
-        let seat = self.table.shared.split_seat::<Hands>(&mut keeper.seat);
-        Pass {
-            seat,
-            of: PhantomData,
-        }
+        self.split::<Hands>(keeper)
     }
 
     /// The seat under the lock adds to what is known, and publishes the history's length.
@@ -323,35 +310,16 @@ impl<B: Room> HubTable<B> {
             .compare_exchange_with::<Admit>(&mut keeper.seat, 0, places, places, all);
     }
 
-    /// The number goes to a seat of its own.
-    fn names(&self, keeper: &mut Pass<B>) -> Pass<B>
-        ensures { (keeper.new ≡ member_none keeper.old) × (result ≡ member_alone keeper.old) }
-    {
-        let seat = self.table.shared.split_seat::<Names>(&mut keeper.seat);
-        Pass {
-            seat,
-            of: PhantomData,
-        }
-    }
-
     /// Under the lock: one submitter more is known of, and a seat has its number, which no other has or had.
     pub(crate) fn admit(&self, keeper: &mut Pass<B>, places: u64, all: &HubFacts) -> Pass<B>
         requires keeps { IsKeepers keeper.old }
         requires one_more { all.now ≡ with_member keeper.old.all }
         requires length { length all.now.history ≡ places }
         ensures keeper { IsKeepers keeper.new × (keeper.new.all ≡ all.now) }
-        ensures badge { result ≡ badge_of keeper.old.all.members }
+        ensures badge { result.member ≡ Some keeper.old.all.members }
     {
         self.number(keeper, places, all);
-        self.names(keeper)
-    }
-
-    /// What is met is spent, and its number is noted.
-    fn join(&self, mine: &mut Pass<B>, other: Pass<B>)
-        ensures { mine.new ≡ meeting mine.old other }
-    {
-        let Pass { seat, of: _ } = other;
-        self.table.shared.join_seat::<Meet>(&mut mine.seat, seat);
+        self.hands(keeper)
     }
 
     /// Two seats that have a submitter's number have two numbers. The other one is spent.
@@ -359,12 +327,20 @@ impl<B: Room> HubTable<B> {
         ensures same { mine.new.member ≡ mine.old.member }
         ensures apart { (n : ℕ) → other.member ≡ Some n → mine.old.member ≢ Some n }
     {
-        self.join(mine, other);
+        self.lend(mine, other);
         self.look(mine);
     }
 
-    /// Under the lock: what is known becomes `all`, the word the length of its history, and the seat that asks is told of it.
-    fn told(&self, keeper: &mut Pass<B>, me: Pass<B>, old: u64, new: u64, all: &HubFacts) -> Pass<B>
+    /// Under the lock: what is known becomes `all`, the word the length of its history, and the seat that asks is told of it. What was
+    /// submitted since is owed to it, and no more what was fetched.
+    pub(crate) fn told(
+        &self,
+        keeper: &mut Pass<B>,
+        me: Pass<B>,
+        old: u64,
+        new: u64,
+        all: &HubFacts,
+    ) -> Pass<B>
         requires keeps { IsKeepers keeper.old }
         requires may { (me.pubs ≡ true) ⊎ IsSamePart all.now keeper.old.all }
         requires may_give { (me.gives ≡ true) ⊎ (all.now.given ≡ keeper.old.all.given) }
@@ -406,56 +382,5 @@ impl<B: Room> HubTable<B> {
         ensures given { me.gives ≡ true → me.was.given ≡ keeper.old.all.given }
     {
         self.told(keeper, me, old, new, all)
-    }
-
-    /// The same where one more was submitted, by the submitter whose seat it is: its answer is owed to it.
-    pub(crate) fn tell_asked(
-        &self,
-        keeper: &mut Pass<B>,
-        me: Pass<B>,
-        places: u64,
-        all: &HubFacts,
-    ) -> Pass<B>
-        requires keeps { IsKeepers keeper.old }
-        requires may { (me.pubs ≡ true) ⊎ IsSamePart all.now keeper.old.all }
-        requires may_give { (me.gives ≡ true) ⊎ (all.now.given ≡ keeper.old.all.given) }
-        requires grows { IsBefore keeper.old.all all.now }
-        requires lengths { (length keeper.old.all.history ≡ places) × (length all.now.history ≡ places) }
-        requires asked { length all.now.asked ≡ length keeper.old.all.asked + 1 }
-        requires fetched { all.now.fetched ≡ keeper.old.all.fetched }
-        ensures keeper { keeper.new ≡ keeping all.now }
-        ensures told { result ≡ seeing me.pubs me.gives (me.owed + 1) all.now }
-        ensures before { IsBefore me.was keeper.old.all }
-        ensures same { me.pubs ≡ true → IsSamePart me.was keeper.old.all }
-        ensures given { me.gives ≡ true → me.was.given ≡ keeper.old.all.given }
-        ensures owed { me.owed + keeper.old.all.fetched ≤ length keeper.old.all.asked }
-    {
-        self.told(keeper, me, places, places, all)
-    }
-
-    /// The same where one answer more was fetched, which was owed to this seat.
-    pub(crate) fn tell_fetched(
-        &self,
-        keeper: &mut Pass<B>,
-        me: Pass<B>,
-        places: u64,
-        all: &HubFacts,
-    ) -> Pass<B>
-        requires keeps { IsKeepers keeper.old }
-        requires may { (me.pubs ≡ true) ⊎ IsSamePart all.now keeper.old.all }
-        requires may_give { (me.gives ≡ true) ⊎ (all.now.given ≡ keeper.old.all.given) }
-        requires grows { IsBefore keeper.old.all all.now }
-        requires lengths { (length keeper.old.all.history ≡ places) × (length all.now.history ≡ places) }
-        requires owed { 1 ≤ me.owed }
-        requires asked { all.now.asked ≡ keeper.old.all.asked }
-        requires fetched { all.now.fetched ≡ keeper.old.all.fetched + 1 }
-        ensures keeper { keeper.new ≡ keeping all.now }
-        ensures told { result ≡ seeing me.pubs me.gives result.owed all.now }
-        ensures owed { result.owed + 1 ≡ me.owed }
-        ensures before { IsBefore me.was keeper.old.all }
-        ensures same { me.pubs ≡ true → IsSamePart me.was keeper.old.all }
-        ensures given { me.gives ≡ true → me.was.given ≡ keeper.old.all.given }
-    {
-        self.told(keeper, me, places, places, all)
     }
 }

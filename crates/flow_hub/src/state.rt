@@ -3,7 +3,7 @@ ghost use Rattle.std.specs.Prelude.{◌≡◌, ◌≢◌, ◌⊎◌, ◌+◌, �
 ghost use Rattle.std.specs.Vec.{vec_capacity};
 ghost use Rattle.flow_hub.specs.Asks.{Stands, IsOwn, IsGone, IsTold};
 ghost use Rattle.flow_hub.specs.Knowing.{IsBefore, IsHistory, IsSamePart, answered_in, nothing};
-ghost use Rattle.flow_hub.specs.Seating.{opener, seeing, badge_of, IsSubmitters, IsPublishers};
+ghost use Rattle.flow_hub.specs.Seating.{opener, seeing, IsSubmitters, IsPublishers};
 ghost use Rattle.flow_hub.specs.Halls.{submitted, took, published, refused_all, fetched_receipt, fetched_refusal, enrolled, closed, ended, new_ask, unfetched};
 ghost use Rattle.flow_hub.specs.Publishing.{Answers, HasTaken, HasPublished, HasRefused, HasEnded, IsAllTaken, IsDone};
 ghost use Rattle.flow_hub.specs.Submitting.{HasTakenIn, IsFetched, IsOpen, IsDenied, IsSettled};
@@ -15,14 +15,13 @@ use crate::hub::Closer;
 use crate::known::HubFacts;
 use crate::seats::{HubTable, Named, PARTS, Pass, Room};
 use crate::settled::Settled;
+use crate::unfetched::{refused_at, ticket_at};
 use flow_base::code::Code;
 use flow_base::command::Command;
+use flow_base::submission::{Receipt, Taken};
+use flow_base::task::Task;
 use flow_commit::stamp::Stamp;
-use flow_machine::submission::{Receipt, Taken};
-use flow_machine::task::Task;
-use flow_queues::queues::{
-    move_front, place_of, push_receipts, refuse_all, refused_at, take_receipt, ticket_at,
-};
+use flow_queues::queues::{move_front, place_of, push_receipts, refuse_all, take_receipt};
 use flow_queues::refused::Refused;
 use std::alloc::{AllocError, Global};
 use std::collections::VecDeque;
@@ -170,7 +169,7 @@ impl<B: Room> State<B> {
         seats: &HubTable<B>,
     ) -> Option<(u64, Pass<B>, Pass<B>, Share<B>)>
         ensures enrolled { IfSome result (λ m. (m.0 ≡ self.old.known.members) × (self.new ≡ enrolled self.old)) }
-        ensures badge { IfSome result (λ m. m.1 ≡ badge_of m.0) }
+        ensures badge { IfSome result (λ m. m.1.member ≡ Some m.0) }
         ensures seat { IfSome result (λ m. m.2 ≡ seeing false false 0 self.new.known) }
         ensures share { IfSome result (λ m. (m.3.parts ≡ 1) × (m.3.amount ≡ 0)) }
         ensures parts { B.parts ≡ 2 ^ 62 }
@@ -239,7 +238,7 @@ impl<B: Room> State<B> {
         let ticket = self.given;
         let taken = Taken { ticket, command };
         self.known.ask(&taken);
-        let me = seats.tell_asked(&mut self.keeper, me, self.places, &self.known);
+        let me = seats.told(&mut self.keeper, me, self.places, self.places, &self.known);
         self.waiting.push_back_reserved(taken);
         self.tickets.add(mine, 1);
         self.given += 1;
@@ -347,7 +346,7 @@ impl<B: Room> State<B> {
         };
         let receipt = take_receipt(&mut self.answered, k);
         self.known.fetched += 1;
-        let me = seats.tell_fetched(&mut self.keeper, me, self.places, &self.known);
+        let me = seats.told(&mut self.keeper, me, self.places, self.places, &self.known);
         (me, Some(receipt))
     }
 
@@ -374,7 +373,7 @@ impl<B: Room> State<B> {
         };
         let refused = self.refused.remove(k);
         self.known.fetched += 1;
-        let me = seats.tell_fetched(&mut self.keeper, me, self.places, &self.known);
+        let me = seats.told(&mut self.keeper, me, self.places, self.places, &self.known);
         (me, Some(refused))
     }
 

@@ -16,7 +16,7 @@ use crate::settled::Settled;
 use crate::ticket::{NotDone, Ticket, Why};
 use flow_base::command::Command;
 use flow_base::number::Moment;
-use flow_machine::submission::Receipt;
+use flow_base::submission::Receipt;
 use flow_queues::refused::Refused;
 use flow_timers::{Clock, tick_due};
 use std::marker::Model;

@@ -2,7 +2,7 @@
 ghost use Rattle.std.specs.Prelude.{◌≡◌, ◌%◌, All};
 ghost use Rattle.flow_hub.specs.Waking.{Wakes};
 
-use flow_machine::submission::{Receipt, Taken};
+use flow_base::submission::{Receipt, Taken};
 use std::array;
 use std::sync::Condvar;
 

@@ -12,8 +12,8 @@ use Rattle.flow_lines.specs.Answering.{Part, Lone, Applied, GivenUp, IsCut, AreP
 use Rattle.flow_lines.specs.Commands.{line_command}
 use Rattle.flow_lines.specs.Faults.{fault_of_stop}
 use Rattle.flow_lines.specs.Replies.{line_text}
-use Rattle.flow_machine.specs.declared.answer.Stop.{Stop}
-use Rattle.flow_machine.specs.declared.answer.Stop.TheVariants as stop
+use Rattle.flow_model.specs.declared.answer.Stop.{Stop}
+use Rattle.flow_model.specs.declared.answer.Stop.TheVariants as stop
 use Rattle.flow_base.specs.declared.fault.Fault.{Fault}
 use Rattle.flow_base.specs.declared.fault.Fault.TheVariants as fault
 use Rattle.flow_lines.specs.declared.reply.Line.{Line}

@@ -11,8 +11,8 @@ use Rattle.flow_base.specs.declared.command.Reply.{Reply}
 use Rattle.flow_model.specs.Apply.{Rules, outcome, after, after_one, replies}
 use Rattle.flow_base.specs.declared.fault.Fault.{Fault}
 use Rattle.flow_model.specs.Book.{Book}
-use Rattle.flow_machine.specs.Answers.{IsGivenUp}
-use Rattle.flow_machine.specs.declared.answer.Stop.{Stop}
+use Rattle.flow_model.specs.Answers.{IsGivenUp}
+use Rattle.flow_model.specs.declared.answer.Stop.{Stop}
 use Rattle.flow_lines.specs.Answering.{Applied, GivenUp, FirstLine, Answered, BatchAnswered, EndsFull, EndsNext, Gathered, HasEnded, HasFew, HasOneMore, HoldsLines, IsBatch, IsFilled, IsFull, OfBatch, ReadAs, StatusWithin, StopsAtPart, StopsBetween, StopsWithin, TellsPart, WritesAll, WritesPart, WritesSome, all_applied, all_given_up, answers_by, are_commands, commands_in, last_or, lines_by, lines_told, marked, with_command}
 use Rattle.flow_lines.specs.Commands.{line_command}
 use Rattle.flow_lines.specs.Driving.{lines_of, written, answer_status, final_status}

@@ -82,14 +82,14 @@ command_back d c e =
 
 command_there : (c : Command) → IsCommand c → command_in (command_out c) ≡ Some c
 command_there (command.Register src) f = refl
-command_there (command.Start req flow text args at) f =
-    rw (start_exact.there (args, (at, (tt, (flow, (req, (text, tt)))))) (f.3, (f.4, (tt, (f.1, (f.0, (f.2, tt))))))) refl
+command_there (command.Start s) f =
+    rw (start_exact.there (s.arguments, (s.at, (tt, (s.flow, (s.request, (s.text, tt)))))) (f.3, (f.4, (tt, (f.1, (f.0, (f.2, tt))))))) refl
 command_there (command.Signal req flow name v at) f =
     rw (signal_exact.there (at, (tt, (flow, (name, (req, (v, tt)))))) (f.3, (tt, (f.1, (tt, (f.0, (f.2, tt))))))) refl
-command_there (command.Complete run event attempt v at) f =
-    rw (complete_exact.there (at, (attempt, (tt, (event, (run, (v, tt)))))) (f.4, (f.2, (tt, (f.1, (f.0, (f.3, tt))))))) refl
-command_there (command.Fail run event attempt reason at) f =
-    rw (fail_exact.there (at, (attempt, (tt, (event, (reason, (run, tt)))))) (f.4, (f.2, (tt, (f.1, (f.3, (f.0, tt))))))) refl
+command_there (command.Complete c) f =
+    rw (complete_exact.there (c.at, (c.attempt, (tt, (c.event, (c.run, (c.value, tt)))))) (f.4, (f.2, (tt, (f.1, (f.0, (f.3, tt))))))) refl
+command_there (command.Fail x) f =
+    rw (fail_exact.there (x.at, (x.attempt, (tt, (x.event, (x.reason, (x.run, tt)))))) (f.4, (f.2, (tt, (f.1, (f.3, (f.0, tt))))))) refl
 command_there (command.Tick at) f = rw (tick_exact.there (at, (tt, tt)) (f, (tt, tt))) refl
 command_there (command.Terminate run reason at) f = rw (terminate_exact.there (at, (tt, (reason, (run, tt)))) (f.2, (tt, (f.1, (f.0, tt))))) refl
 command_there (command.Upgrade run text) f = rw (upgrade_exact.there (tt, (run, (text, tt))) (tt, (f.0, (f.1, tt)))) refl

@@ -7,7 +7,7 @@ use Rattle.flow_base.specs.declared.command.Command.{Command}
 use Rattle.flow_base.specs.declared.fault.Fault.{Fault}
 use Rattle.flow_model.specs.Apply.{Rules, after}
 use Rattle.flow_model.specs.Book.{Book}
-use Rattle.flow_machine.specs.declared.answer.Stop.{Stop}
+use Rattle.flow_model.specs.declared.answer.Stop.{Stop}
 use Rattle.flow_lines.specs.Answering.{Part, Lone, Applied, GivenUp, AreParts, EndsFull, Gathered, HasFew, HoldsLines, SomeAnswered, StopsAmong, StopsAtPart, StopsBetween, StopsNext, TellsPart, WritesAll, WritesPart, answers_by, book_behind, commands_in, lines_by, lines_in}
 use Rattle.flow_lines.specs.Commands.{line_command}
 use Rattle.flow_lines.specs.Driving.{answer_status, final_status, written}

@@ -9,8 +9,8 @@ use Rattle.flow_lines.specs.Answering.{AreParts, Answered}
 use Rattle.flow_lines.specs.Driving.{lines_of}
 use Rattle.flow_lines.specs.Faults.{fault_status, fault_of_stop}
 use Rattle.flow_lines.specs.Stopping.{CausedFault, ComeNext, StoppedBy}
-use Rattle.flow_machine.specs.declared.answer.Stop.{Stop}
-use Rattle.flow_machine.specs.declared.answer.Stop.TheVariants as stop
+use Rattle.flow_model.specs.declared.answer.Stop.{Stop}
+use Rattle.flow_model.specs.declared.answer.Stop.TheVariants as stop
 use Rattle.flow_base.specs.declared.fault.Fault.{Fault}
 use Rattle.flow_base.specs.declared.fault.Fault.TheVariants as fault
 

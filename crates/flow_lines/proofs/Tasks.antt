@@ -3,7 +3,7 @@ use Rattle.std.proofs.Common.{◌≡◌, false, refl}
 use Rattle.serde_json.specs.Written.{has_float, compact_text}
 use Rattle.serde_json.proofs.OnLiterals.{serde_json_on_literals}
 use Rattle.flow_base.proofs.Exact.{values_exact}
-use Rattle.flow_machine.specs.declared.task.Task.{Task}
+use Rattle.flow_base.specs.declared.task.Task.{Task}
 use Rattle.flow_lines.specs.Tasks.{task_out, task_text}
 
 pub task_plain : (t : Task) → has_float (task_out t) ≡ false

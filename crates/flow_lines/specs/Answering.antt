@@ -11,9 +11,9 @@ use Rattle.flow_base.specs.declared.fault.Fault.{Fault}
 use Rattle.flow_base.specs.declared.fault.Fault.TheVariants as fault
 use Rattle.flow_model.specs.Apply.{Rules, outcome, after, after_one}
 use Rattle.flow_model.specs.Book.{Book}
-use Rattle.flow_machine.specs.Answers.{IsGivenUp}
-use Rattle.flow_machine.specs.declared.answer.Stop.{Stop}
-use Rattle.flow_machine.specs.declared.answer.Stop.TheVariants as stop
+use Rattle.flow_model.specs.Answers.{IsGivenUp}
+use Rattle.flow_model.specs.declared.answer.Stop.{Stop}
+use Rattle.flow_model.specs.declared.answer.Stop.TheVariants as stop
 use Rattle.flow_lines.specs.Commands.{line_command}
 use Rattle.flow_lines.specs.Driving.{lines_of, written, final_status, WritesBeginning}
 use Rattle.flow_lines.specs.declared.reply.Line.{Line}

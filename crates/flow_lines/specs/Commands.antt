@@ -80,10 +80,10 @@ history = with (codes "do") (fixed (codes "history")) (with (codes "run") positi
 -- the members of a command
 abbrev pub members_out : Command → Members
 members_out (command.Register src) = register.write (tt, (src, tt))
-members_out (command.Start req flow text args at) = start.write (args, (at, (tt, (flow, (req, (text, tt))))))
+members_out (command.Start s) = start.write (s.arguments, (s.at, (tt, (s.flow, (s.request, (s.text, tt))))))
 members_out (command.Signal req flow name v at) = signal.write (at, (tt, (flow, (name, (req, (v, tt))))))
-members_out (command.Complete run event attempt v at) = complete.write (at, (attempt, (tt, (event, (run, (v, tt))))))
-members_out (command.Fail run event attempt reason at) = fail.write (at, (attempt, (tt, (event, (reason, (run, tt))))))
+members_out (command.Complete c) = complete.write (c.at, (c.attempt, (tt, (c.event, (c.run, (c.value, tt))))))
+members_out (command.Fail f) = fail.write (f.at, (f.attempt, (tt, (f.event, (f.reason, (f.run, tt))))))
 members_out (command.Tick at) = tick.write (at, (tt, tt))
 members_out (command.Terminate run reason at) = terminate.write (at, (tt, (reason, (run, tt))))
 members_out (command.Upgrade run text) = upgrade.write (tt, (run, (text, tt)))
@@ -95,10 +95,13 @@ members_out (command.Open from most) = no_members
 -- what members say, if they are those of a command with this word
 abbrev pub members_in : Verb → Members → Option Command
 members_in verb.Register ms = option_map (λ p. command.Register p.1.0) (register.read ms)
-members_in verb.Start ms = option_map (λ p. command.Start p.1.1.1.1.0 p.1.1.1.0 p.1.1.1.1.1.0 p.0 p.1.0) (start.read ms)
+members_in verb.Start ms =
+    option_map (λ p. command.Start (record { request = p.1.1.1.1.0; flow = p.1.1.1.0; text = p.1.1.1.1.1.0; arguments = p.0; at = p.1.0 })) (start.read ms)
 members_in verb.Signal ms = option_map (λ p. command.Signal p.1.1.1.1.0 p.1.1.0 p.1.1.1.0 p.1.1.1.1.1.0 p.0) (signal.read ms)
-members_in verb.Complete ms = option_map (λ p. command.Complete p.1.1.1.1.0 p.1.1.1.0 p.1.0 p.1.1.1.1.1.0 p.0) (complete.read ms)
-members_in verb.Fail ms = option_map (λ p. command.Fail p.1.1.1.1.1.0 p.1.1.1.0 p.1.0 p.1.1.1.1.0 p.0) (fail.read ms)
+members_in verb.Complete ms =
+    option_map (λ p. command.Complete (record { run = p.1.1.1.1.0; event = p.1.1.1.0; attempt = p.1.0; value = p.1.1.1.1.1.0; at = p.0 })) (complete.read ms)
+members_in verb.Fail ms =
+    option_map (λ p. command.Fail (record { run = p.1.1.1.1.1.0; event = p.1.1.1.0; attempt = p.1.0; reason = p.1.1.1.1.0; at = p.0 })) (fail.read ms)
 members_in verb.Tick ms = option_map (λ p. command.Tick p.0) (tick.read ms)
 members_in verb.Terminate ms = option_map (λ p. command.Terminate p.1.1.1.0 p.1.1.0 p.0) (terminate.read ms)
 members_in verb.Upgrade ms = option_map (λ p. command.Upgrade p.1.0 p.1.1.0) (upgrade.read ms)
@@ -124,10 +127,10 @@ line_command line = if is_utf8 line then option_and_then command_in (read line) 
 -- within the limits of lines
 abbrev pub IsCommand : Command → Type 0
 IsCommand (command.Register src) = Unit {0}
-IsCommand (command.Start req flow text args at) = IsKey req × IsKey flow × IsPosition text × FitValues args × IsMoment at
+IsCommand (command.Start s) = IsKey s.request × IsKey s.flow × IsPosition s.text × FitValues s.arguments × IsMoment s.at
 IsCommand (command.Signal req flow name v at) = IsKey req × IsKey flow × FitsValue v × IsMoment at
-IsCommand (command.Complete run event attempt v at) = IsPosition run × IsPosition event × IsPosition attempt × FitsValue v × IsMoment at
-IsCommand (command.Fail run event attempt reason at) = IsPosition run × IsPosition event × IsPosition attempt × IsText reason × IsMoment at
+IsCommand (command.Complete c) = IsPosition c.run × IsPosition c.event × IsPosition c.attempt × FitsValue c.value × IsMoment c.at
+IsCommand (command.Fail f) = IsPosition f.run × IsPosition f.event × IsPosition f.attempt × IsText f.reason × IsMoment f.at
 IsCommand (command.Tick at) = IsMoment at
 IsCommand (command.Terminate run reason at) = IsPosition run × IsText reason × IsMoment at
 IsCommand (command.Upgrade run text) = IsPosition run × IsPosition text

@@ -10,8 +10,8 @@ use Rattle.flow_base.specs.declared.fields.FieldFault.TheVariants as refused
 use Rattle.flow_base.specs.declared.fault.Fault.{Fault}
 use Rattle.flow_base.specs.declared.fault.Fault.TheVariants as fault
 use Rattle.flow_base.specs.declared.fault.Table.{Table}
-use Rattle.flow_machine.specs.declared.answer.Stop.{Stop}
-use Rattle.flow_machine.specs.declared.answer.Stop.TheVariants as stop
+use Rattle.flow_model.specs.declared.answer.Stop.{Stop}
+use Rattle.flow_model.specs.declared.answer.Stop.TheVariants as stop
 use Rattle.flow_lines.specs.declared.command.LineFault.{LineFault}
 use Rattle.flow_lines.specs.declared.command.LineFault.TheVariants as line_fault
 

@@ -6,8 +6,8 @@ use Rattle.flow_model.specs.Apply.{Rules}
 use Rattle.flow_model.specs.Book.{Book}
 use Rattle.flow_lines.specs.Answering.{Part, AreParts, book_behind, commands_in, lines_in}
 use Rattle.flow_lines.specs.Driving.{lines_of}
-use Rattle.flow_machine.specs.declared.answer.Stop.{Stop}
-use Rattle.flow_machine.specs.declared.answer.Stop.TheVariants as stop
+use Rattle.flow_model.specs.declared.answer.Stop.{Stop}
+use Rattle.flow_model.specs.declared.answer.Stop.TheVariants as stop
 use Rattle.flow_base.specs.declared.fault.Fault.{Fault}
 use Rattle.flow_base.specs.declared.fault.Fault.TheVariants as fault
 

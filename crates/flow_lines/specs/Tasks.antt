@@ -4,7 +4,7 @@ use Rattle.serde_json.specs.Data.{Data, object, array, string, member, no_member
 use Rattle.serde_json.specs.Written.{compact_text}
 use Rattle.json.specs.Print.{quoted}
 use Rattle.flow_base.specs.Leaves.{list_out}
-use Rattle.flow_machine.specs.declared.task.Task.{Task}
+use Rattle.flow_base.specs.declared.task.Task.{Task}
 use Rattle.flow_lines.specs.Replies.{whole_out}
 
 -- its keys in byte order

@@ -12,7 +12,7 @@ ghost use Rattle.flow_lines.specs.Faults.{GivesCommand, GivesLine, line_fault_co
 ghost use Rattle.flow_lines.specs.declared.command.Verb.TheVariants as verb;
 
 use flow_base::code::Code;
-use flow_base::command::Command;
+use flow_base::command::{Command, Complete, Fail, Start};
 use flow_base::fields::{FieldFault, Fields};
 use flow_base::memory::NoMemory;
 use flow_base::number::LAST_NUMBER;
@@ -102,14 +102,20 @@ fn register_of(alloc: Global, mut fields: Fields) -> Result<Command, FieldFault>
 fn start_of(alloc: Global, mut fields: Fields) -> Result<Command, FieldFault>
     ensures { Gives (λ c. c) result (members_in verb.Start (left fields)) }
 {
-    let args = fields.any_values(alloc, "args")?;
+    let arguments = fields.any_values(alloc, "args")?;
     let at = fields.moment("at")?;
     fields.fixed("do", "start")?;
     let flow = fields.key(alloc, "flow")?;
     let request = fields.key(alloc, "req")?;
     let text = fields.text_number("text")?;
     fields.finish()?;
-    Ok(Command::Start(request, flow, text, args, at))
+    Ok(Command::Start(Start {
+        request,
+        flow,
+        text,
+        arguments,
+        at,
+    }))
 }
 
 fn signal_of(alloc: Global, mut fields: Fields) -> Result<Command, FieldFault>
@@ -141,7 +147,13 @@ fn complete_of(alloc: Global, mut fields: Fields) -> Result<Command, FieldFault>
     let run = fields.run("run")?;
     let value = fields.value(alloc, "value")?;
     fields.finish()?;
-    Ok(Command::Complete(run, event, attempt, value, at))
+    Ok(Command::Complete(Complete {
+        run,
+        event,
+        attempt,
+        value,
+        at,
+    }))
 }
 
 fn fail_of(alloc: Global, mut fields: Fields) -> Result<Command, FieldFault>
@@ -154,7 +166,13 @@ fn fail_of(alloc: Global, mut fields: Fields) -> Result<Command, FieldFault>
     let reason = fields.text(alloc, "reason")?;
     let run = fields.run("run")?;
     fields.finish()?;
-    Ok(Command::Fail(run, event, attempt, reason, at))
+    Ok(Command::Fail(Fail {
+        run,
+        event,
+        attempt,
+        reason,
+        at,
+    }))
 }
 
 fn tick_of(mut fields: Fields) -> Result<Command, FieldFault>

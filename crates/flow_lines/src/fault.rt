@@ -7,7 +7,7 @@ ghost use Rattle.flow_base.specs.declared.fault.Fault.TheVariants.{Damaged};
 
 use flow_base::fault::{Damage, Fault};
 use flow_base::memory::NoMemory;
-use flow_machine::answer::Stop;
+use flow_model::answer::Stop;
 use std::alloc::{AllocError, Global};
 use std::io::ErrorKind;
 

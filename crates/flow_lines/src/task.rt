@@ -9,7 +9,7 @@ ghost use Rattle.flow_lines.specs.Tasks.{task_out, task_text};
 use crate::output::{Unwritten, with_end};
 use crate::streams::write_bytes;
 use flow_base::encoding::values_to_json;
-use flow_machine::task::Task;
+use flow_base::task::Task;
 use serde_json::{Value as Json, json};
 use std::alloc::{AllocError, Global};
 use std::io::Write;

@@ -14,6 +14,8 @@ use Rattle.flow_base.specs.declared.book.OpenActivity.{OpenActivity}
 use Rattle.flow_base.specs.declared.book.Turn.{Turn}
 use Rattle.flow_base.specs.declared.code.Code.{Code}
 use Rattle.flow_base.specs.declared.code.Code.TheVariants.{NoRun, NoOpenRun, NoSuchSignal, OldAttempt, WrongType}
+use Rattle.flow_base.specs.declared.command.Complete.{Complete}
+use Rattle.flow_base.specs.declared.command.Fail.{Fail}
 use Rattle.flow_base.specs.declared.command.Reply.TheVariants as reply
 use Rattle.flow_base.specs.declared.command.TextFault.{TextFault}
 use Rattle.flow_model.specs.Deliver.{has_kind}
@@ -97,14 +99,14 @@ completed_is u b r run event attempt v at =
     reported (task_at r.tasks event) attempt (gives_kind (nth r.history event) v) (input_recorded u b r run at (ActivityCompleted event v))
     ∙ ap (λ (x : Outcome). tested (attempt_refusal (head_of r) event attempt) (must_hold (gives_kind (nth r.history event) v) WrongType x)) (input_is u b r run at (ActivityCompleted event v))
 
-pub complete_is : (u : Rules) (b : Book) (run event attempt : ℕ) (v : Value) (at : ℕ) → complete u b run event attempt v at ≡ complete_at u b run event attempt v at
+pub complete_is : (u : Rules) (b : Book) (c : Complete) → complete u b c.run c.event c.attempt c.value c.at ≡ complete_at u b c
 unfolding complete complete_at given_at input_at
-complete_is u b run event attempt v at =
-    elim (nth b.runs run) as (λ (o : Option Run).
-    must_be o NoRun (λ r. tested (report_refusal r event attempt v) (input_recorded u b r run at (ActivityCompleted event v)))
-    ≡ must_be (head_if o) NoRun (λ h. tested (attempt_refusal h event attempt) (must_hold (gives_kind (event_if o event) v) WrongType (input_over u b h (history_if o) run at (ActivityCompleted event v))))) [
+complete_is u b c =
+    elim (nth b.runs c.run) as (λ (o : Option Run).
+    must_be o NoRun (λ r. tested (report_refusal r c.event c.attempt c.value) (input_recorded u b r c.run c.at (ActivityCompleted c.event c.value)))
+    ≡ must_be (head_if o) NoRun (λ h. tested (attempt_refusal h c.event c.attempt) (must_hold (gives_kind (event_if o c.event) c.value) WrongType (input_over u b h (history_if o) c.run c.at (ActivityCompleted c.event c.value))))) [
       | None ↦ refl
-      | Some r ↦ completed_is u b r run event attempt v at
+      | Some r ↦ completed_is u b r c.run c.event c.attempt c.value c.at
     ]
 
 completed_stuck : (m : Bytes → Result Program TextFault) (b : Book) (r : Run) (event attempt : ℕ) (v : Value)
@@ -113,14 +115,14 @@ unfolding report_refusal attempt_refusal StuckInput
 completed_stuck m b r event attempt v h =
     report_stuck (task_at r.tasks event) attempt (gives_kind (nth r.history event) v) (stuck_over m b (head_of r) r.history (ActivityCompleted event v)) h
 
-pub complete_stuck : (m : Bytes → Result Program TextFault) (b : Book) (run event attempt : ℕ) (v : Value) → StuckCompleteAt m b run event attempt v → StuckComplete m b run event attempt v
+pub complete_stuck : (m : Bytes → Result Program TextFault) (b : Book) (c : Complete) → StuckCompleteAt m b c → StuckComplete m b c.run c.event c.attempt c.value
 unfolding StuckCompleteAt StuckGivenAt StuckInputAt StuckComplete
-complete_stuck m b run event attempt v =
-    elim (nth b.runs run) as (λ (o : Option Run).
-    where_there (head_if o) (λ h. unless_there (attempt_refusal h event attempt) (where_holds (gives_kind (event_if o event) v) (stuck_over m b h (history_if o) (ActivityCompleted event v))))
-    → where_there o (λ r. unless_there (report_refusal r event attempt v) (StuckInput m b r (ActivityCompleted event v)))) [
+complete_stuck m b c =
+    elim (nth b.runs c.run) as (λ (o : Option Run).
+    where_there (head_if o) (λ h. unless_there (attempt_refusal h c.event c.attempt) (where_holds (gives_kind (event_if o c.event) c.value) (stuck_over m b h (history_if o) (ActivityCompleted c.event c.value))))
+    → where_there o (λ r. unless_there (report_refusal r c.event c.attempt c.value) (StuckInput m b r (ActivityCompleted c.event c.value)))) [
       | None ↦ λ h. h
-      | Some r ↦ λ h. completed_stuck m b r event attempt v h
+      | Some r ↦ λ h. completed_stuck m b r c.event c.attempt c.value h
     ]
 
 ---- An attempt that failed
@@ -140,14 +142,14 @@ failed_is u b r run event attempt reason at =
     ap (tested (attempt_refusal (head_of r) event attempt))
     (sound_is (tries_of (nth r.history event)) (attempt_failed u b r run event attempt reason at) (retried_over u b (head_of r) r.history run event attempt reason at) (λ tries. retry_is u b r run event attempt reason at tries))
 
-pub fail_is : (u : Rules) (b : Book) (run event attempt : ℕ) (reason : Bytes) (at : ℕ) → fail u b run event attempt reason at ≡ fail_at u b run event attempt reason at
+pub fail_is : (u : Rules) (b : Book) (f : Fail) → fail u b f.run f.event f.attempt f.reason f.at ≡ fail_at u b f
 unfolding fail fail_at run_failed_at input_at
-fail_is u b run event attempt reason at =
-    elim (nth b.runs run) as (λ (o : Option Run).
-    must_be o NoRun (λ r. tested (failure_refusal r event attempt) (if_sound (tries_of (nth r.history event)) (attempt_failed u b r run event attempt reason at)))
-    ≡ must_be (head_if o) NoRun (λ h. tested (attempt_refusal h event attempt) (if_sound (tries_of (event_if o event)) (retried_over u b h (history_if o) run event attempt reason at)))) [
+fail_is u b f =
+    elim (nth b.runs f.run) as (λ (o : Option Run).
+    must_be o NoRun (λ r. tested (failure_refusal r f.event f.attempt) (if_sound (tries_of (nth r.history f.event)) (attempt_failed u b r f.run f.event f.attempt f.reason f.at)))
+    ≡ must_be (head_if o) NoRun (λ h. tested (attempt_refusal h f.event f.attempt) (if_sound (tries_of (event_if o f.event)) (retried_over u b h (history_if o) f.run f.event f.attempt f.reason f.at)))) [
       | None ↦ refl
-      | Some r ↦ failed_is u b r run event attempt reason at
+      | Some r ↦ failed_is u b r f.run f.event f.attempt f.reason f.at
     ]
 
 failed_stuck : (m : Bytes → Result Program TextFault) (b : Book) (r : Run) (event attempt : ℕ) (reason : Bytes)
@@ -156,14 +158,14 @@ failed_stuck : (m : Bytes → Result Program TextFault) (b : Book) (r : Run) (ev
 unfolding failure_refusal attempt_refusal StuckInput
 failed_stuck m b r event attempt reason h = h
 
-pub fail_stuck : (m : Bytes → Result Program TextFault) (b : Book) (run event attempt : ℕ) (reason : Bytes) → StuckFailAt m b run event attempt reason → StuckFail m b run event attempt reason
+pub fail_stuck : (m : Bytes → Result Program TextFault) (b : Book) (f : Fail) → StuckFailAt m b f → StuckFail m b f.run f.event f.attempt f.reason
 unfolding StuckFailAt StuckFailureAt StuckInputAt StuckFail
-fail_stuck m b run event attempt reason =
-    elim (nth b.runs run) as (λ (o : Option Run).
-    where_there (head_if o) (λ h. unless_there (attempt_refusal h event attempt) (needs (tries_of (event_if o event)) (λ tries. unless_holds (nat_lt attempt tries.0) (stuck_over m b h (history_if o) (ActivityFailed event reason)))))
-    → where_there o (λ r. unless_there (failure_refusal r event attempt) (needs (tries_of (nth r.history event)) (StuckFailed m b r event attempt reason)))) [
+fail_stuck m b f =
+    elim (nth b.runs f.run) as (λ (o : Option Run).
+    where_there (head_if o) (λ h. unless_there (attempt_refusal h f.event f.attempt) (needs (tries_of (event_if o f.event)) (λ tries. unless_holds (nat_lt f.attempt tries.0) (stuck_over m b h (history_if o) (ActivityFailed f.event f.reason)))))
+    → where_there o (λ r. unless_there (failure_refusal r f.event f.attempt) (needs (tries_of (nth r.history f.event)) (StuckFailed m b r f.event f.attempt f.reason)))) [
       | None ↦ λ h. h
-      | Some r ↦ λ h. failed_stuck m b r event attempt reason h
+      | Some r ↦ λ h. failed_stuck m b r f.event f.attempt f.reason h
     ]
 
 ---- Signals

@@ -28,6 +28,7 @@ pub mod GoingOn
 pub mod ByHeads
 pub mod Seating
 pub mod Stepping
+pub mod FromHeads
 pub mod Taking
 pub mod OneMoreCommand
 pub mod Replaying

@@ -264,10 +264,10 @@ module _ (u : Rules) (b : Book) (Q : List Change → Type 0) (c : CoversTurns u 
     pub changes_have : ((at : ℕ) → Has (tick u b at)) → (x : Command) → Has (outcome u b x)
     unfolding outcome
     changes_have ticks (command.Register body) = register_has body
-    changes_have ticks (command.Start request flow text vs at) = start_has request flow text vs at
+    changes_have ticks (command.Start s) = start_has s.request s.flow s.text s.arguments s.at
     changes_have ticks (command.Signal request flow name v at) = signal_has request flow name v at
-    changes_have ticks (command.Complete run event attempt v at) = complete_has run event attempt v at
-    changes_have ticks (command.Fail run event attempt reason at) = fail_has run event attempt reason at
+    changes_have ticks (command.Complete c) = complete_has c.run c.event c.attempt c.value c.at
+    changes_have ticks (command.Fail f) = fail_has f.run f.event f.attempt f.reason f.at
     changes_have ticks (command.Tick at) = ticks at
     changes_have ticks (command.Terminate run reason at) = terminate_has run reason at
     changes_have ticks (command.Upgrade run text) = upgrade_has run text

@@ -3,6 +3,7 @@ use Rattle.std.proofs.Common.{◌≡◌, ℕ, Bool, true, Option, Some, sym, ap,
 use Rattle.std.specs.Prelude.{◌⊎◌, IfOk}
 use Rattle.flow_base.specs.Syntax.{Bytes, Program}
 use Rattle.flow_base.specs.declared.book.Due.{Due}
+use Rattle.flow_base.specs.declared.command.Complete.{Complete}
 use Rattle.flow_base.specs.declared.command.TextFault.{TextFault}
 use Rattle.flow_base.specs.declared.event.Event.{Event}
 use Rattle.flow_base.specs.declared.event.Input.{Input}
@@ -62,14 +63,14 @@ module _ (m : Bytes → Result Program TextFault) (old seen : Book) (still : see
   cant_seen : CantRecord p (history_at old.runs n) i → CantRecord p (history_at seen.runs n) i
   cant_seen h = subst (λ (b : Book). CantRecord p (history_at b.runs n) i) (sym still) h
 
-  pub given_sticks : (h : Head) (run event : ℕ) (v w : Value) (o : Option Event) → o ≡ event_at old.runs run event → gives_kind o v ≡ true → w ≡ v
-      → (CantRecord p (history_at seen.runs n) i → StuckInputAt m seen h run (ActivityCompleted event w)) → CantRecord p (history_at old.runs n) i → StuckGivenAt m old h run event v
+  pub given_sticks : (h : Head) (c : Complete) (w : Value) (o : Option Event) → o ≡ event_at old.runs c.run c.event → gives_kind o c.value ≡ true → w ≡ c.value
+      → (CantRecord p (history_at seen.runs n) i → StuckInputAt m seen h c.run (ActivityCompleted c.event w)) → CantRecord p (history_at old.runs n) i → StuckGivenAt m old h c
   unfolding StuckGivenAt
-  given_sticks h run event v w o is gives same stuck cant =
-      let there : StuckInputAt m old h run (ActivityCompleted event w) = subst (λ (b : Book). StuckInputAt m b h run (ActivityCompleted event w)) still (stuck (cant_seen cant)) in
-      let over : StuckInputAt m old h run (ActivityCompleted event v) = subst (λ (x : Value). StuckInputAt m old h run (ActivityCompleted event x)) same there in
-      let holds : gives_kind (event_at old.runs run event) v ≡ true = sym (ap (λ (q : Option Event). gives_kind q v) is) ∙ gives in
-      subst (λ (t : Bool). where_holds t (StuckInputAt m old h run (ActivityCompleted event v))) (sym holds) over
+  given_sticks h c w o is gives same stuck cant =
+      let there : StuckInputAt m old h c.run (ActivityCompleted c.event w) = subst (λ (b : Book). StuckInputAt m b h c.run (ActivityCompleted c.event w)) still (stuck (cant_seen cant)) in
+      let over : StuckInputAt m old h c.run (ActivityCompleted c.event c.value) = subst (λ (x : Value). StuckInputAt m old h c.run (ActivityCompleted c.event x)) same there in
+      let holds : gives_kind (event_at old.runs c.run c.event) c.value ≡ true = sym (ap (λ (q : Option Event). gives_kind q c.value) is) ∙ gives in
+      subst (λ (t : Bool). where_holds t (StuckInputAt m old h c.run (ActivityCompleted c.event c.value))) (sym holds) over
 
   pub fired_sticks : (h : Head) (d : Due) → Some h ≡ head_at old.runs d.run → (CantRecord p (history_at seen.runs n) i → StuckInputAt m seen h d.run (TimerFired d.id)) → CantRecord p (history_at old.runs n) i → StuckFiredAt m old d
   unfolding StuckFiredAt

@@ -118,10 +118,10 @@ module _ (u : Rules) (b : Book) where
 pub stuck_unnumbered : StuckUnnumbered
 unfolding IsStuck outcome
 stuck_unnumbered u b (command.Register body) reads h stuck = register_ends u b body stuck
-stuck_unnumbered u b (command.Start request flow text vs at) reads h stuck = start_ends u b request flow text vs at reads stuck
+stuck_unnumbered u b (command.Start s) reads h stuck = start_ends u b s.request s.flow s.text s.arguments s.at reads stuck
 stuck_unnumbered u b (command.Signal request flow name v at) reads h stuck = absurd (signal_goes_on u b request flow name v h stuck)
-stuck_unnumbered u b (command.Complete run event attempt v at) reads h stuck = absurd (complete_goes_on u b run event attempt v h stuck)
-stuck_unnumbered u b (command.Fail run event attempt reason at) reads h stuck = absurd (fail_goes_on u b run event attempt reason h stuck)
+stuck_unnumbered u b (command.Complete c) reads h stuck = absurd (complete_goes_on u b c.run c.event c.attempt c.value h stuck)
+stuck_unnumbered u b (command.Fail f) reads h stuck = absurd (fail_goes_on u b f.run f.event f.attempt f.reason h stuck)
 stuck_unnumbered u b (command.Tick at) reads h stuck = absurd (tick_goes_on u b at h stuck)
 stuck_unnumbered u b (command.Terminate run reason at) reads h stuck = absurd stuck
 stuck_unnumbered u b (command.Upgrade run text) reads h stuck = absurd (upgrade_goes_on u b run text reads stuck)

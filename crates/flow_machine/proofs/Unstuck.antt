@@ -214,10 +214,10 @@ module _ (u : Rules) (b : Book) where
 pub sound_decides : SoundDecides
 unfolding IsStuck
 sound_decides u b (command.Register body) reads h stuck = register_decides u b body stuck
-sound_decides u b (command.Start request flow text vs at) reads h stuck = start_decides u b request flow text vs reads stuck
+sound_decides u b (command.Start s) reads h stuck = start_decides u b s.request s.flow s.text s.arguments reads stuck
 sound_decides u b (command.Signal request flow name v at) reads h stuck = absurd (signal_goes_on u b request flow name v h stuck)
-sound_decides u b (command.Complete run event attempt v at) reads h stuck = absurd (complete_goes_on u b run event attempt v h stuck)
-sound_decides u b (command.Fail run event attempt reason at) reads h stuck = absurd (fail_goes_on u b run event attempt reason h stuck)
+sound_decides u b (command.Complete c) reads h stuck = absurd (complete_goes_on u b c.run c.event c.attempt c.value h stuck)
+sound_decides u b (command.Fail f) reads h stuck = absurd (fail_goes_on u b f.run f.event f.attempt f.reason h stuck)
 sound_decides u b (command.Tick at) reads h stuck = absurd (tick_goes_on u b at h stuck)
 sound_decides u b (command.Terminate run reason at) reads h stuck = absurd stuck
 sound_decides u b (command.Upgrade run text) reads h stuck = absurd (upgrade_goes_on u b run text reads stuck)

@@ -15,6 +15,8 @@ use Rattle.flow_base.specs.declared.book.Change.{Change}
 use Rattle.flow_base.specs.declared.book.Change.TheVariants.{AddRun, AddTurn}
 use Rattle.flow_base.specs.declared.code.Code.{Code}
 use Rattle.flow_base.specs.declared.code.Code.TheVariants.{NoRun, NoOpenRun, OldAttempt, WrongType, NoSuchSignal}
+use Rattle.flow_base.specs.declared.command.Complete.{Complete}
+use Rattle.flow_base.specs.declared.command.Fail.{Fail}
 use Rattle.flow_base.specs.declared.command.Reply.TheVariants as reply
 use Rattle.flow_base.specs.declared.command.TextFault.{TextFault}
 use Rattle.flow_model.specs.Configuration.{Configuration}
@@ -82,52 +84,50 @@ unfoldable pub attempt_refusal : Head → ℕ → ℕ → Option Code
 attempt_refusal h event attempt = on_task (task_at h.tasks event) (λ t. refuse_unless (nat_eq t.attempt attempt) OldAttempt None)
 
 -- its attempt is the one: the value's type is tested
-unfoldable pub given_at : Rules → Book → Head → ℕ → ℕ → Value → ℕ → Outcome
-given_at u b h run event v at =
-    must_hold (gives_kind (event_at b.runs run event) v) WrongType (input_at u b h run at (ActivityCompleted event v))
+unfoldable pub given_at : Rules → Book → Head → Complete → Outcome
+given_at u b h c =
+    must_hold (gives_kind (event_at b.runs c.run c.event) c.value) WrongType (input_at u b h c.run c.at (ActivityCompleted c.event c.value))
 
-unfoldable pub StuckGivenAt : (Bytes → Result Program TextFault) → Book → Head → ℕ → ℕ → Value → Type 0
-StuckGivenAt program_of b h run event v =
-    where_holds (gives_kind (event_at b.runs run event) v) (StuckInputAt program_of b h run (ActivityCompleted event v))
+unfoldable pub StuckGivenAt : (Bytes → Result Program TextFault) → Book → Head → Complete → Type 0
+StuckGivenAt program_of b h c =
+    where_holds (gives_kind (event_at b.runs c.run c.event) c.value) (StuckInputAt program_of b h c.run (ActivityCompleted c.event c.value))
 
-unfoldable pub complete_at : Rules → Book → ℕ → ℕ → ℕ → Value → ℕ → Outcome
-complete_at u b run event attempt v at =
-    must_be (head_at b.runs run) NoRun (λ h.
-    tested (attempt_refusal h event attempt) (given_at u b h run event v at))
+unfoldable pub complete_at : Rules → Book → Complete → Outcome
+complete_at u b c =
+    must_be (head_at b.runs c.run) NoRun (λ h.
+    tested (attempt_refusal h c.event c.attempt) (given_at u b h c))
 
-unfoldable pub StuckCompleteAt : (Bytes → Result Program TextFault) → Book → ℕ → ℕ → ℕ → Value → Type 0
-StuckCompleteAt program_of b run event attempt v =
-    where_there (head_at b.runs run) (λ h.
-    unless_there (attempt_refusal h event attempt) (StuckGivenAt program_of b h run event v))
+unfoldable pub StuckCompleteAt : (Bytes → Result Program TextFault) → Book → Complete → Type 0
+StuckCompleteAt program_of b c =
+    where_there (head_at b.runs c.run) (λ h.
+    unless_there (attempt_refusal h c.event c.attempt) (StuckGivenAt program_of b h c))
 
 -- the next attempt, or the failure
-abbrev pub attempt_failed_at : Rules → Book → Head → ℕ → ℕ → ℕ → Bytes → ℕ → ℕ × ℕ → Outcome
-attempt_failed_at u b h run event attempt reason at tries =
-    if nat_lt attempt tries.0
-    then retried run event attempt (ready_after (max at h.moment) tries.1)
-    else input_at u b h run at (ActivityFailed event reason)
+abbrev pub attempt_failed_at : Rules → Book → Head → Fail → ℕ × ℕ → Outcome
+attempt_failed_at u b h f tries =
+    if nat_lt f.attempt tries.0
+    then retried f.run f.event f.attempt (ready_after (max f.at h.moment) tries.1)
+    else input_at u b h f.run f.at (ActivityFailed f.event f.reason)
 
-abbrev pub StuckFailedAt : (Bytes → Result Program TextFault) → Book → Head → ℕ → ℕ → ℕ → Bytes → ℕ × ℕ → Type 0
-StuckFailedAt program_of b h run event attempt reason tries =
-    unless_holds (nat_lt attempt tries.0) (StuckInputAt program_of b h run (ActivityFailed event reason))
+abbrev pub StuckFailedAt : (Bytes → Result Program TextFault) → Book → Head → Fail → ℕ × ℕ → Type 0
+StuckFailedAt program_of b h f tries =
+    unless_holds (nat_lt f.attempt tries.0) (StuckInputAt program_of b h f.run (ActivityFailed f.event f.reason))
 
-unfoldable pub run_failed_at : Rules → Book → Head → ℕ → ℕ → ℕ → Bytes → ℕ → Outcome
-run_failed_at u b h run event attempt reason at =
-    if_sound (tries_of (event_at b.runs run event)) (attempt_failed_at u b h run event attempt reason at)
+unfoldable pub run_failed_at : Rules → Book → Head → Fail → Outcome
+run_failed_at u b h f = if_sound (tries_of (event_at b.runs f.run f.event)) (attempt_failed_at u b h f)
 
-unfoldable pub StuckFailureAt : (Bytes → Result Program TextFault) → Book → Head → ℕ → ℕ → ℕ → Bytes → Type 0
-StuckFailureAt program_of b h run event attempt reason =
-    needs (tries_of (event_at b.runs run event)) (StuckFailedAt program_of b h run event attempt reason)
+unfoldable pub StuckFailureAt : (Bytes → Result Program TextFault) → Book → Head → Fail → Type 0
+StuckFailureAt program_of b h f = needs (tries_of (event_at b.runs f.run f.event)) (StuckFailedAt program_of b h f)
 
-unfoldable pub fail_at : Rules → Book → ℕ → ℕ → ℕ → Bytes → ℕ → Outcome
-fail_at u b run event attempt reason at =
-    must_be (head_at b.runs run) NoRun (λ h.
-    tested (attempt_refusal h event attempt) (run_failed_at u b h run event attempt reason at))
+unfoldable pub fail_at : Rules → Book → Fail → Outcome
+fail_at u b f =
+    must_be (head_at b.runs f.run) NoRun (λ h.
+    tested (attempt_refusal h f.event f.attempt) (run_failed_at u b h f))
 
-unfoldable pub StuckFailAt : (Bytes → Result Program TextFault) → Book → ℕ → ℕ → ℕ → Bytes → Type 0
-StuckFailAt program_of b run event attempt reason =
-    where_there (head_at b.runs run) (λ h.
-    unless_there (attempt_refusal h event attempt) (StuckFailureAt program_of b h run event attempt reason))
+unfoldable pub StuckFailAt : (Bytes → Result Program TextFault) → Book → Fail → Type 0
+StuckFailAt program_of b f =
+    where_there (head_at b.runs f.run) (λ h.
+    unless_there (attempt_refusal h f.event f.attempt) (StuckFailureAt program_of b h f))
 
 ---- Signals
 

@@ -1,9 +1,13 @@
 -- What a command comes to before any turn is taken.
-use Rattle.std.specs.Prelude.{◌≡◌, Some}
+use Rattle.std.specs.Prelude.{◌≡◌, ℕ, Some, Result, IfOk}
 use Rattle.flow_model.specs.Checked.{shown_checked}
 use Rattle.flow_model.specs.Book.{Book}
-use Rattle.flow_model.specs.Apply.{Rules, Outcome, program_at}
+use Rattle.flow_model.specs.Apply.{Rules, Outcome, program_at, rules_of}
+use Rattle.flow_view.specs.Called.{Called}
 use Rattle.flow_view.specs.Heads.{head_at}
+use Rattle.flow_view.specs.declared.fault.ViewFault.{ViewFault}
+use Rattle.flow_view.specs.declared.head.Head.{Head}
+use Rattle.flow_view.specs.declared.view.View.{Ghosts}
 use Rattle.flow_machine.specs.ByHead.{history_at, recorded_at}
 use Rattle.flow_machine.specs.Deciding.{Finds}
 use Rattle.flow_machine.specs.Reached.{Meaning}
@@ -42,3 +46,16 @@ abbrev pub Sticks : Book → Step → Type 0 → Type 0
 Sticks b (step.Answered r cs) stuck = Unit {0}
 Sticks b (step.Begins r cs l) stuck = Unit {0}
 Sticks b (step.GoesOn g) stuck = CantRecord (shown_checked g.program.value) (history_at b.runs g.number) g.input → stuck
+
+-- What a call over a view says if it comes to a step: which outcome it is a step to, what is stuck if its run can't record the input, and
+-- what every call says. `g` is the view's kind, `V.View` in a clause.
+pub record StepCalled {V : Type 0} (g : Ghosts V) (m : Meaning) (old new : V) (result : Result Step ViewFault) (o : Outcome) (stuck : Type 0) : Type 0 where
+  pub comes : IfOk result (λ s. g.is_sure new → Comes (rules_of m) (g.book old) (g.book new) s o)
+  pub sticks : IfOk result (λ s. g.is_sure new → Sticks (g.book old) s stuck)
+  pub called : Called g old new result stuck
+
+-- The same of a call that is handed the head of a run: the outcome is that of the book if the head is the run's.
+pub record StepFrom {V : Type 0} (g : Ghosts V) (m : Meaning) (run : ℕ) (h : Head) (old new : V) (result : Result Step ViewFault) (o : Outcome) (stuck : Type 0) : Type 0 where
+  pub comes : IfOk result (λ s. g.is_sure new → head_at (g.book old).runs run ≡ Some h → Comes (rules_of m) (g.book old) (g.book new) s o)
+  pub sticks : IfOk result (λ s. g.is_sure new → Sticks (g.book old) s stuck)
+  pub called : Called g old new result stuck

@@ -151,10 +151,10 @@ StuckOpen program_of b from most = StuckRuns program_of b (take most (open_runs 
 -- A command can't be decided over a book.
 unfoldable pub IsStuck : Rules → Book → Command → Type 0
 IsStuck u b (command.Register body) = StuckRegister u.program_of b body
-IsStuck u b (command.Start request flow text vs at) = StuckStart u.program_of b request flow text vs
+IsStuck u b (command.Start s) = StuckStart u.program_of b s.request s.flow s.text s.arguments
 IsStuck u b (command.Signal request flow name v at) = StuckSignal u.program_of b request flow name v
-IsStuck u b (command.Complete run event attempt v at) = StuckComplete u.program_of b run event attempt v
-IsStuck u b (command.Fail run event attempt reason at) = StuckFail u.program_of b run event attempt reason
+IsStuck u b (command.Complete c) = StuckComplete u.program_of b c.run c.event c.attempt c.value
+IsStuck u b (command.Fail f) = StuckFail u.program_of b f.run f.event f.attempt f.reason
 IsStuck u b (command.Tick at) = StuckTick u b at
 IsStuck u b (command.Terminate run reason at) = ⊥
 IsStuck u b (command.Upgrade run text) = StuckUpgrade u.program_of b run text

@@ -2,21 +2,17 @@
 //!
 //! The rule is `complete` of `flow_model/specs/Apply.antt`. The first of these refuses: E70 (no such run), E64 (the activity isn't open),
 //! E65 (another attempt is the current one), E66 (a value of another type), E69 (the history is full).
-ghost use Rattle.std.specs.Prelude.{◌≡◌, IfOk, Some};
+ghost use Rattle.std.specs.Prelude.{◌≡◌};
 ghost use Rattle.flow_machine.specs.ByHead.{StuckCompleteAt, StuckGivenAt, complete_at, given_at};
-ghost use Rattle.flow_machine.specs.Going.{Comes, Sticks};
-ghost use Rattle.flow_machine.specs.Stuck.{StuckComplete};
+ghost use Rattle.flow_machine.specs.Going.{StepCalled, StepFrom};
 ghost use Rattle.flow_model.specs.Apply as apply;
 ghost use Rattle.flow_model.specs.Apply.{rules_of};
-ghost use Rattle.flow_view.specs.Called.{Called};
-ghost use Rattle.flow_view.specs.Heads.{head_at};
 
 use crate::going::{Step, set_out};
 use crate::report::attempt_refusal;
 use flow_base::code::Code;
-use flow_base::command::Reply;
+use flow_base::command::{Complete, Reply};
 use flow_base::event::{Cmd, Event, Input, What};
-use flow_base::number::{EventId, Moment, RunId};
 use flow_base::value::Value;
 use flow_model::kinds::has_kind;
 use flow_programs::programs::Programs;
@@ -25,53 +21,24 @@ use flow_view::head::Head;
 use flow_view::view::View;
 use std::alloc::Global;
 
-/// As [`complete_at`], in the words of the book.
+/// An attempt of an activity gave a value. In the words of the run's head, as `given`; `decided` says it in those of the book.
+#[tactic(auto, unfolding(crate::specs::ByHead::complete_at, crate::specs::ByHead::StuckCompleteAt))]
 pub(crate) fn complete<V: View, P: Programs>(
     alloc: Global,
     programs: &mut P,
     view: &mut V,
-    number: RunId,
-    event: EventId,
-    attempt: u64,
-    value: &Value,
-    at: Moment,
+    asked: &Complete,
 ) -> Result<Step, ViewFault>
-    ensures comes { IfOk result (λ s. V.is_sure view.new
-        → Comes (rules_of P.meaning) (V.book view.old) (V.book view.new) s
-        (apply.complete (rules_of P.meaning) (V.book view.old) number event attempt value.now at)) }
-    ensures sticks { IfOk result (λ s. V.is_sure view.new
-        → Sticks (V.book view.old) s (StuckComplete P.meaning (V.book view.old) number event attempt value.now)) }
-    ensures called { Called V.View view.old view.new result (StuckComplete P.meaning (V.book view.old) number event attempt value.now) }
+    ensures { StepCalled V.View P.meaning view.old view.new result
+        (complete_at (rules_of P.meaning) (V.book view.old) asked.now) (StuckCompleteAt P.meaning (V.book view.old) asked.now) }
 {
-    complete_at(alloc, programs, view, number, event, attempt, value, at)
-}
-
-/// An attempt of an activity gave a value.
-#[tactic(auto, unfolding(crate::specs::ByHead::complete_at, crate::specs::ByHead::StuckCompleteAt))]
-fn complete_at<V: View, P: Programs>(
-    alloc: Global,
-    programs: &mut P,
-    view: &mut V,
-    number: RunId,
-    event: EventId,
-    attempt: u64,
-    value: &Value,
-    at: Moment,
-) -> Result<Step, ViewFault>
-    ensures comes { IfOk result (λ s. V.is_sure view.new
-        → Comes (rules_of P.meaning) (V.book view.old) (V.book view.new) s
-        (complete_at (rules_of P.meaning) (V.book view.old) number event attempt value.now at)) }
-    ensures sticks { IfOk result (λ s. V.is_sure view.new
-        → Sticks (V.book view.old) s (StuckCompleteAt P.meaning (V.book view.old) number event attempt value.now)) }
-    ensures called { Called V.View view.old view.new result (StuckCompleteAt P.meaning (V.book view.old) number event attempt value.now) }
-{
-    let Some(head) = view.head(number)? else {
+    let Some(head) = view.head(asked.run)? else {
         return Ok(Step::Answered(Reply::Refused(Code::NoRun), Vec::new(alloc)));
     };
-    if let Some(code) = attempt_refusal(&head, event, attempt) {
+    if let Some(code) = attempt_refusal(&head, asked.event, asked.attempt) {
         return Ok(Step::Answered(Reply::Refused(code), Vec::new(alloc)));
     }
-    let step = given(alloc, programs, view, head, number, event, value, at)?;
+    let step = given(alloc, programs, view, head, asked)?;
     Ok(step)
 }
 
@@ -82,24 +49,18 @@ fn given<V: View, P: Programs>(
     programs: &mut P,
     view: &mut V,
     head: Head,
-    number: RunId,
-    event: EventId,
-    value: &Value,
-    at: Moment,
+    asked: &Complete,
 ) -> Result<Step, ViewFault>
-    ensures comes { IfOk result (λ s. V.is_sure view.new → head_at (V.book view.old).runs number ≡ Some head
-        → Comes (rules_of P.meaning) (V.book view.old) (V.book view.new) s
-        (given_at (rules_of P.meaning) (V.book view.old) head number event value.now at)) }
-    ensures sticks { IfOk result (λ s. V.is_sure view.new
-        → Sticks (V.book view.old) s (StuckGivenAt P.meaning (V.book view.old) head number event value.now)) }
-    ensures called { Called V.View view.old view.new result (StuckGivenAt P.meaning (V.book view.old) head number event value.now) }
+    ensures { StepFrom V.View P.meaning asked.now.run head view.old view.new result
+        (given_at (rules_of P.meaning) (V.book view.old) head asked.now)
+        (StuckGivenAt P.meaning (V.book view.old) head asked.now) }
 {
-    let scheduled = view.event(number, event)?;
-    if !gives(&scheduled, value) {
+    let scheduled = view.event(asked.run, asked.event)?;
+    if !gives(&scheduled, &asked.value) {
         return Ok(Step::Answered(Reply::Refused(Code::WrongType), Vec::new(alloc)));
     }
-    let input = Input::ActivityCompleted(event, value.copy(alloc)?);
-    let going = set_out(alloc, programs, view, head, number, at, input)?;
+    let input = Input::ActivityCompleted(asked.event, asked.value.copy(alloc)?);
+    let going = set_out(alloc, programs, view, head, asked.run, asked.at, input)?;
     Ok(Step::GoesOn(going))
 }
 

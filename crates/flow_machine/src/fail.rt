@@ -2,15 +2,12 @@
 //!
 //! The rule is `fail` of `flow_model/specs/Apply.antt`. The first of these refuses: E70 (no such run), E64 (the activity isn't open), E65
 //! (another attempt is the current one), and, where no attempt is left, E69 (the history is full).
-ghost use Rattle.std.specs.Prelude.{◌<◌, ◌≡◌, IfOk, Some};
+ghost use Rattle.std.specs.Prelude.{◌<◌, ◌≡◌, IfOk};
 ghost use Rattle.flow_machine.specs.ByHead.{StuckFailAt, StuckFailedAt, StuckFailureAt, attempt_failed_at, fail_at, run_failed_at};
 ghost use Rattle.flow_machine.specs.Deciding.{Gives};
-ghost use Rattle.flow_machine.specs.Going.{Comes, Sticks};
-ghost use Rattle.flow_machine.specs.Stuck.{StuckFail};
+ghost use Rattle.flow_machine.specs.Going.{StepCalled, StepFrom};
 ghost use Rattle.flow_model.specs.Apply as apply;
 ghost use Rattle.flow_model.specs.Apply.{rules_of};
-ghost use Rattle.flow_view.specs.Called.{Called};
-ghost use Rattle.flow_view.specs.Heads.{head_at};
 ghost use Rattle.flow_view.specs.Reading.{Caused};
 
 use crate::going::{Step, set_out};
@@ -18,65 +15,33 @@ use crate::puts::one;
 use crate::report::attempt_refusal;
 use flow_base::book::Change;
 use flow_base::code::Code;
-use flow_base::command::Reply;
+use flow_base::command::{Fail, Reply};
 use flow_base::event::{Cmd, Event, Input, What};
-use flow_base::number::{EventId, LAST_MOMENT, Moment, RunId};
-use flow_base::text::Text;
+use flow_base::number::{LAST_MOMENT, Moment};
 use flow_programs::programs::Programs;
 use flow_view::fault::ViewFault;
 use flow_view::head::Head;
 use flow_view::view::View;
 use std::alloc::Global;
 
-/// As [`fail_at`], in the words of the book.
+/// An attempt of an activity failed. In the words of the run's head, as what follows; `decided` says it in those of the book.
+#[tactic(auto, unfolding(crate::specs::ByHead::fail_at, crate::specs::ByHead::StuckFailAt))]
 pub(crate) fn fail<V: View, P: Programs>(
     alloc: Global,
     programs: &mut P,
     view: &mut V,
-    number: RunId,
-    event: EventId,
-    attempt: u64,
-    reason: &Text,
-    at: Moment,
+    asked: &Fail,
 ) -> Result<Step, ViewFault>
-    ensures comes { IfOk result (λ s. V.is_sure view.new
-        → Comes (rules_of P.meaning) (V.book view.old) (V.book view.new) s
-        (apply.fail (rules_of P.meaning) (V.book view.old) number event attempt reason.now at)) }
-    ensures sticks { IfOk result (λ s. V.is_sure view.new
-        → Sticks (V.book view.old) s (StuckFail P.meaning (V.book view.old) number event attempt reason.now)) }
-    ensures called { Called V.View view.old view.new result (StuckFail P.meaning (V.book view.old) number event attempt reason.now) }
+    ensures { StepCalled V.View P.meaning view.old view.new result
+        (fail_at (rules_of P.meaning) (V.book view.old) asked.now) (StuckFailAt P.meaning (V.book view.old) asked.now) }
 {
-    fail_at(alloc, programs, view, number, event, attempt, reason, at)
-}
-
-/// An attempt of an activity failed.
-#[tactic(auto, unfolding(crate::specs::ByHead::fail_at, crate::specs::ByHead::StuckFailAt))]
-fn fail_at<V: View, P: Programs>(
-    alloc: Global,
-    programs: &mut P,
-    view: &mut V,
-    number: RunId,
-    event: EventId,
-    attempt: u64,
-    reason: &Text,
-    at: Moment,
-) -> Result<Step, ViewFault>
-    ensures comes { IfOk result (λ s. V.is_sure view.new
-        → Comes (rules_of P.meaning) (V.book view.old) (V.book view.new) s
-        (fail_at (rules_of P.meaning) (V.book view.old) number event attempt reason.now at)) }
-    ensures sticks { IfOk result (λ s. V.is_sure view.new
-        → Sticks (V.book view.old) s (StuckFailAt P.meaning (V.book view.old) number event attempt reason.now)) }
-    ensures called { Called V.View view.old view.new result (StuckFailAt P.meaning (V.book view.old) number event attempt reason.now) }
-{
-    let Some(head) = view.head(number)? else {
+    let Some(head) = view.head(asked.run)? else {
         return Ok(Step::Answered(Reply::Refused(Code::NoRun), Vec::new(alloc)));
     };
-    if let Some(code) = attempt_refusal(&head, event, attempt) {
+    if let Some(code) = attempt_refusal(&head, asked.event, asked.attempt) {
         return Ok(Step::Answered(Reply::Refused(code), Vec::new(alloc)));
     }
-    let step = fail_run(
-        alloc, programs, view, head, number, event, attempt, reason, at,
-    )?;
+    let step = fail_run(alloc, programs, view, head, asked)?;
     Ok(step)
 }
 
@@ -87,27 +52,17 @@ fn fail_run<V: View, P: Programs>(
     programs: &mut P,
     view: &mut V,
     head: Head,
-    number: RunId,
-    event: EventId,
-    attempt: u64,
-    reason: &Text,
-    at: Moment,
+    asked: &Fail,
 ) -> Result<Step, ViewFault>
-    ensures comes { IfOk result (λ s. V.is_sure view.new → head_at (V.book view.old).runs number ≡ Some head
-        → Comes (rules_of P.meaning) (V.book view.old) (V.book view.new) s
-        (run_failed_at (rules_of P.meaning) (V.book view.old) head number event attempt reason.now at)) }
-    ensures sticks { IfOk result (λ s. V.is_sure view.new
-        → Sticks (V.book view.old) s (StuckFailureAt P.meaning (V.book view.old) head number event attempt reason.now)) }
-    ensures called { Called V.View view.old view.new result
-        (StuckFailureAt P.meaning (V.book view.old) head number event attempt reason.now) }
+    ensures { StepFrom V.View P.meaning asked.now.run head view.old view.new result
+        (run_failed_at (rules_of P.meaning) (V.book view.old) head asked.now)
+        (StuckFailureAt P.meaning (V.book view.old) head asked.now) }
 {
-    let scheduled = view.event(number, event)?;
+    let scheduled = view.event(asked.run, asked.event)?;
     let Some((tries, every)) = tries_of(&scheduled) else {
         return Err(ViewFault::StoreRefused);
     };
-    let step = attempt_failed(
-        alloc, programs, view, head, number, event, attempt, reason, at, tries, every,
-    )?;
+    let step = attempt_failed(alloc, programs, view, head, asked, tries, every)?;
     Ok(step)
 }
 
@@ -117,29 +72,21 @@ fn attempt_failed<V: View, P: Programs>(
     programs: &mut P,
     view: &mut V,
     head: Head,
-    number: RunId,
-    event: EventId,
-    attempt: u64,
-    reason: &Text,
-    at: Moment,
+    asked: &Fail,
     tries: u64,
     every: u64,
 ) -> Result<Step, ViewFault>
-    ensures comes { IfOk result (λ s. V.is_sure view.new → head_at (V.book view.old).runs number ≡ Some head
-        → Comes (rules_of P.meaning) (V.book view.old) (V.book view.new) s
-        (attempt_failed_at (rules_of P.meaning) (V.book view.old) head number event attempt reason.now at (tries, every))) }
-    ensures sticks { IfOk result (λ s. V.is_sure view.new
-        → Sticks (V.book view.old) s (StuckFailedAt P.meaning (V.book view.old) head number event attempt reason.now (tries, every))) }
-    ensures called { Called V.View view.old view.new result
-        (StuckFailedAt P.meaning (V.book view.old) head number event attempt reason.now (tries, every)) }
+    ensures { StepFrom V.View P.meaning asked.now.run head view.old view.new result
+        (attempt_failed_at (rules_of P.meaning) (V.book view.old) head asked.now (tries, every))
+        (StuckFailedAt P.meaning (V.book view.old) head asked.now (tries, every)) }
 {
-    if attempt < tries {
-        let ready = ready_after(at.max(head.moment), every);
-        let (reply, changes) = retried(alloc, number, event, attempt, tries, ready)?;
+    if asked.attempt < tries {
+        let ready = ready_after(asked.at.max(head.moment), every);
+        let (reply, changes) = retried(alloc, asked, tries, ready)?;
         return Ok(Step::Answered(reply, changes));
     }
-    let input = Input::ActivityFailed(event, reason.copy(alloc)?);
-    let going = set_out(alloc, programs, view, head, number, at, input)?;
+    let input = Input::ActivityFailed(asked.event, asked.reason.copy(alloc)?);
+    let going = set_out(alloc, programs, view, head, asked.run, asked.at, input)?;
     Ok(Step::GoesOn(going))
 }
 
@@ -175,17 +122,18 @@ fn ready_after(at: Moment, pause: u64) -> Moment
 /// The next attempt is made, ready at this moment, and no event is recorded.
 fn retried(
     alloc: Global,
-    number: RunId,
-    event: EventId,
-    attempt: u64,
+    asked: &Fail,
     tries: u64,
     ready: Moment,
 ) -> Result<(Reply, Vec<Change>), ViewFault>
-    requires { attempt < tries }
-    ensures gives { IfOk result (λ x. Gives x.0 x.1.items (apply.retried number event attempt ready)) }
+    requires { asked.now.attempt < tries }
+    ensures gives { IfOk result (λ x. Gives x.0 x.1.items (apply.retried asked.now.run asked.now.event asked.now.attempt ready)) }
     ensures cause { Caused result ⊥ }
 {
-    let next = attempt + 1;
-    let changes = one(alloc, Change::SetAttempt(number, event, next, ready))?;
-    Ok((Reply::Retry(number, next, ready), changes))
+    let next = asked.attempt + 1;
+    let changes = one(
+        alloc,
+        Change::SetAttempt(asked.run, asked.event, next, ready),
+    )?;
+    Ok((Reply::Retry(asked.run, next, ready), changes))
 }

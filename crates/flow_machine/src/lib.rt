@@ -1,7 +1,6 @@
-//! Decides commands over a view of a book, and says what it is to answer them.
+//! Decides commands over a view of a book.
 #![tactic(auto)]
 
-pub mod answer;
 mod complete;
 pub mod decide;
 mod describe;
@@ -18,10 +17,13 @@ mod report;
 pub mod seats;
 mod signal;
 mod start;
-pub mod submission;
-pub mod task;
 mod terminate;
 mod tick;
 mod turns;
 mod upgrade;
 pub mod verify;
+
+pub use flow_base::book::Change;
+pub use flow_base::command::{Command, Reply};
+pub use flow_base::submission::{Receipt, Taken};
+pub use flow_base::task::Task;

@@ -6,13 +6,10 @@ ghost use Rattle.std.specs.Prelude.{◌≡◌, IfErr, IfOk, IfSome, MatchOption,
 ghost use Rattle.flow_base.specs.Shown.{shown_declaration};
 ghost use Rattle.flow_machine.specs.ByHead as by_head;
 ghost use Rattle.flow_machine.specs.ByHead.{StuckSendAt, StuckSentAt, run_sent_at, sent_at};
-ghost use Rattle.flow_machine.specs.Going.{Comes, Sticks};
-ghost use Rattle.flow_machine.specs.Stuck.{StuckSignal};
-ghost use Rattle.flow_model.specs.Apply as apply;
+ghost use Rattle.flow_machine.specs.Going.{StepCalled};
 ghost use Rattle.flow_model.specs.Apply.{rules_of};
 ghost use Rattle.flow_model.specs.Checked.{shown_checked};
 ghost use Rattle.flow_model.specs.WellFormed as declared;
-ghost use Rattle.flow_view.specs.Called.{Called};
 
 use crate::going::{Going, Step};
 use crate::programs::program_of;
@@ -30,7 +27,8 @@ use flow_view::fault::ViewFault;
 use flow_view::view::View;
 use std::alloc::{AllocError, Global};
 
-/// As [`signal_at`], in the words of the book.
+/// A signal is sent to the open run of a flow. In the words of the run's head; `decided` says it in those of the book.
+#[tactic(auto, unfolding(crate::specs::ByHead::sent_at, crate::specs::ByHead::StuckSendAt))]
 pub(crate) fn signal<V: View, P: Programs>(
     alloc: Global,
     programs: &mut P,
@@ -41,35 +39,8 @@ pub(crate) fn signal<V: View, P: Programs>(
     value: &Value,
     at: Moment,
 ) -> Result<Step, ViewFault>
-    ensures comes { IfOk result (λ s. V.is_sure view.new
-        → Comes (rules_of P.meaning) (V.book view.old) (V.book view.new) s
-        (apply.signal (rules_of P.meaning) (V.book view.old) request.now flow.now name.now value.now at)) }
-    ensures sticks { IfOk result (λ s. V.is_sure view.new
-        → Sticks (V.book view.old) s (StuckSignal P.meaning (V.book view.old) request.now flow.now name.now value.now)) }
-    ensures called { Called V.View view.old view.new result
-        (StuckSignal P.meaning (V.book view.old) request.now flow.now name.now value.now) }
-{
-    signal_at(alloc, programs, view, request, flow, name, value, at)
-}
-
-/// A signal is sent to the open run of a flow.
-#[tactic(auto, unfolding(crate::specs::ByHead::sent_at, crate::specs::ByHead::StuckSendAt))]
-fn signal_at<V: View, P: Programs>(
-    alloc: Global,
-    programs: &mut P,
-    view: &mut V,
-    request: &Key,
-    flow: &Key,
-    name: &RawText,
-    value: &Value,
-    at: Moment,
-) -> Result<Step, ViewFault>
-    ensures comes { IfOk result (λ s. V.is_sure view.new
-        → Comes (rules_of P.meaning) (V.book view.old) (V.book view.new) s
-        (sent_at (rules_of P.meaning) (V.book view.old) request.now flow.now name.now value.now at)) }
-    ensures sticks { IfOk result (λ s. V.is_sure view.new
-        → Sticks (V.book view.old) s (StuckSendAt P.meaning (V.book view.old) request.now flow.now name.now value.now)) }
-    ensures called { Called V.View view.old view.new result
+    ensures { StepCalled V.View P.meaning view.old view.new result
+        (sent_at (rules_of P.meaning) (V.book view.old) request.now flow.now name.now value.now at)
         (StuckSendAt P.meaning (V.book view.old) request.now flow.now name.now value.now) }
 {
     if let Some((run, event)) = view.signalled(flow, request)? {
@@ -94,12 +65,8 @@ fn signal_run<V: View, P: Programs>(
     value: &Value,
     at: Moment,
 ) -> Result<Step, ViewFault>
-    ensures comes { IfOk result (λ s. V.is_sure view.new
-        → Comes (rules_of P.meaning) (V.book view.old) (V.book view.new) s
-        (run_sent_at (rules_of P.meaning) (V.book view.old) number request.now name.now value.now at)) }
-    ensures sticks { IfOk result (λ s. V.is_sure view.new
-        → Sticks (V.book view.old) s (StuckSentAt P.meaning (V.book view.old) number request.now name.now value.now)) }
-    ensures called { Called V.View view.old view.new result
+    ensures { StepCalled V.View P.meaning view.old view.new result
+        (run_sent_at (rules_of P.meaning) (V.book view.old) number request.now name.now value.now at)
         (StuckSentAt P.meaning (V.book view.old) number request.now name.now value.now) }
 {
     let Some(head) = view.head(number)? else {

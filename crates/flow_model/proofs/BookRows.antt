@@ -18,6 +18,7 @@ use Rattle.flow_base.specs.declared.command.Reply.TheVariants as reply
 use Rattle.flow_model.specs.Turned.{turned, position_from}
 use Rattle.flow_model.specs.Book.{no_book}
 use Rattle.flow_model.specs.Apply.{Rules, rules_of, outcome, register, start, complete, report_refusal, input_recorded, recorded, terminate, describe, history, after, replies}
+use Rattle.flow_model.proofs.Commands.{start_of, complete_of}
 
 -- workflow a(n: int) { activity c(int, text) -> int; let r = 0; r = call c(n, "eur"); return r + 1; }
 abbrev A : Program
@@ -55,10 +56,10 @@ int n = Int (pos n)
 
 -- register a, start it with [7] at 1000
 abbrev begun : List Command
-begun = command.Register (codes "a") ∷ command.Start (codes "q") (codes "f") 1 (int 7 ∷ []) 1000 ∷ []
+begun = command.Register (codes "a") ∷ start_of (codes "q") (codes "f") 1 (int 7 ∷ []) 1000 ∷ []
 
 abbrev reported : List Command
-reported = begun ++ command.Complete 1 2 1 (int 41) 1500 ∷ []
+reported = begun ++ complete_of 1 2 1 (int 41) 1500 ∷ []
 
 -- A run from its start to its result, and its history.
 row_1 : replies rules no_book (reported ++ command.History 1 ∷ []) ≡ reply.Registered 1 ∷ reply.Started 1 ∷ reply.Recorded 1 3 ∷ reply.History (
@@ -70,37 +71,37 @@ unfolding outcome register start complete history report_refusal input_recorded 
 row_1 = refl
 
 -- An empty program completes with the empty text.
-row_2 : replies rules no_book (command.Register (codes "e") ∷ command.Start (codes "q") (codes "f") 1 [] 0 ∷ command.History 1 ∷ []) ≡ reply.Registered 1 ∷ reply.Started 1 ∷ reply.History (
+row_2 : replies rules no_book (command.Register (codes "e") ∷ start_of (codes "q") (codes "f") 1 [] 0 ∷ command.History 1 ∷ []) ≡ reply.Registered 1 ∷ reply.Started 1 ∷ reply.History (
     record { id = 1; at = 0; what = Came (input.Started []) } ∷ record { id = 2; at = 0; what = Asked (cmd.Complete (Text [])) } ∷ []) ∷ []
 unfolding outcome register start history turned
 row_2 = refl
 
 -- The same report again is refused, and changes nothing.
-row_3 : replies rules (after rules no_book reported) (command.Complete 1 2 1 (int 41) 1500 ∷ []) ≡ reply.Refused NotOpen ∷ []
+row_3 : replies rules (after rules no_book reported) (complete_of 1 2 1 (int 41) 1500 ∷ []) ≡ reply.Refused NotOpen ∷ []
 unfolding outcome register start complete report_refusal input_recorded recorded turned position_from
 row_3 = refl
 
-row_3_book : after rules (after rules no_book reported) (command.Complete 1 2 1 (int 41) 1500 ∷ []) ≡ after rules no_book reported
+row_3_book : after rules (after rules no_book reported) (complete_of 1 2 1 (int 41) 1500 ∷ []) ≡ after rules no_book reported
 unfolding outcome register start complete report_refusal input_recorded recorded turned position_from
 row_3_book = refl
 
 -- A value of the wrong type, and an old attempt, which is told before it.
-row_4 : replies rules (after rules no_book begun) (command.Complete 1 2 1 (Text (codes "41")) 1500 ∷ command.Complete 1 2 2 (Text (codes "41")) 1500 ∷ [])
+row_4 : replies rules (after rules no_book begun) (complete_of 1 2 1 (Text (codes "41")) 1500 ∷ complete_of 1 2 2 (Text (codes "41")) 1500 ∷ [])
     ≡ reply.Refused WrongType ∷ reply.Refused OldAttempt ∷ []
 unfolding outcome register start complete report_refusal input_recorded recorded turned position_from
 row_4 = refl
 
 -- A sum that leaves 64 bits fails the run.
-row_5 : replies rules (after rules no_book begun) (command.Complete 1 2 1 (int 9223372036854775807) 1500 ∷ command.Describe 1 ∷ [])
+row_5 : replies rules (after rules no_book begun) (complete_of 1 2 1 (int 9223372036854775807) 1500 ∷ command.Describe 1 ∷ [])
     ≡ reply.Recorded 1 3 ∷ reply.Run (record { flow = codes "f"; text = 1; state = state.Failed; events = 4; activities = []; timers = [] }) ∷ []
 unfolding outcome register start complete describe report_refusal input_recorded recorded turned position_from
 row_5 = refl
 
 -- The refusals of a start in their order, and a request and a text that are known.
 starts : replies rules no_book (
-    command.Start (codes "q") (codes "f") 1 [] 0 ∷ begun ++ command.Register (codes "a") ∷ command.Register (codes "b")
-    ∷ command.Start (codes "q") (codes "g") 9 [] 0 ∷ command.Start (codes "r") (codes "f") 9 [] 0
-    ∷ command.Start (codes "r") (codes "f") 1 [] 0 ∷ command.Start (codes "r") (codes "f") 1 (int 7 ∷ []) 0 ∷ command.Describe 2 ∷ [])
+    start_of (codes "q") (codes "f") 1 [] 0 ∷ begun ++ command.Register (codes "a") ∷ command.Register (codes "b")
+    ∷ start_of (codes "q") (codes "g") 9 [] 0 ∷ start_of (codes "r") (codes "f") 9 [] 0
+    ∷ start_of (codes "r") (codes "f") 1 [] 0 ∷ start_of (codes "r") (codes "f") 1 (int 7 ∷ []) 0 ∷ command.Describe 2 ∷ [])
     ≡ reply.Refused NoText ∷ reply.Registered 1 ∷ reply.Started 1 ∷ reply.Registered 1 ∷ reply.BadText (record { code = Unexpected; at = 0 })
     ∷ reply.Duplicate 1 ∷ reply.Refused NoText ∷ reply.Refused BadArguments ∷ reply.Refused AlreadyOpen ∷ reply.Refused NoRun ∷ []
 unfolding outcome register start describe turned
@@ -129,7 +130,7 @@ terminated_run = refl
 
 -- Its activity is open no more, and it is terminated once. A run that isn't there is told as such.
 terminated_once : replies rules (after rules no_book begun) (
-    command.Terminate 1 (codes "why") 1500 ∷ command.Describe 1 ∷ command.Complete 1 2 1 (int 41) 1500 ∷ command.Terminate 1 (codes "again") 1500
+    command.Terminate 1 (codes "why") 1500 ∷ command.Describe 1 ∷ complete_of 1 2 1 (int 41) 1500 ∷ command.Terminate 1 (codes "again") 1500
     ∷ command.Terminate 2 [] 1500 ∷ [])
     ≡ reply.Recorded 1 3 ∷ reply.Run (record { flow = codes "f"; text = 1; state = state.Terminated; events = 3; activities = []; timers = [] })
     ∷ reply.Refused NotOpen ∷ reply.Refused NotOpen ∷ reply.Refused NoRun ∷ []

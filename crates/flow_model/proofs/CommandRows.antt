@@ -26,6 +26,7 @@ use Rattle.flow_model.specs.Turned.{turned, position_from}
 use Rattle.flow_model.specs.Verdict.{verdict_from}
 use Rattle.flow_model.specs.Book.{no_book}
 use Rattle.flow_model.specs.Apply.{Rules, rules_of, outcome, register, start, signal, complete, fail, tick, firings, fired, terminate, upgrade, describe, history, list_open, report_refusal, failure_refusal, input_recorded, recorded, after, replies}
+use Rattle.flow_model.proofs.Commands.{start_of, complete_of, fail_of}
 
 ---- Programs
 
@@ -129,7 +130,7 @@ asked n at c = record { id = n; at = at; what = Asked c }
 ---- Signals
 
 abbrev waiting : List Command
-waiting = command.Register (codes "b") ∷ command.Start (codes "q1") (codes "f") 1 [] 1000 ∷ []
+waiting = command.Register (codes "b") ∷ start_of (codes "q1") (codes "f") 1 [] 1000 ∷ []
 
 abbrev sends : Value → ℕ → Command
 sends v at = command.Signal (codes "q2") (codes "f") (codes "s") v at
@@ -154,7 +155,7 @@ too_late = refl
 signals : replies rules (after rules no_book waiting) (
     command.Signal (codes "q2") (codes "g") (codes "s") (Text []) 1050 ∷ command.Signal (codes "q2") (codes "f") (codes "z") (int 1) 1050 ∷ sends (int 1) 1050
     ∷ sends (Text (codes "x")) 1050 ∷ sends (Text (codes "y")) 1060 ∷ command.Signal (codes "q3") (codes "f") (codes "s") (Text []) 1060
-    ∷ command.Signal (codes "q2") (codes "g") (codes "s") (Text []) 1060 ∷ command.Start (codes "q1") (codes "g") 1 [] 1060 ∷ [])
+    ∷ command.Signal (codes "q2") (codes "g") (codes "s") (Text []) 1060 ∷ start_of (codes "q1") (codes "g") 1 [] 1060 ∷ [])
     ≡ reply.Refused NoOpenRun ∷ reply.Refused NoSuchSignal ∷ reply.Refused WrongType
     ∷ reply.Recorded 1 3 ∷ reply.DuplicateSignal 1 3 ∷ reply.Refused NoOpenRun
     ∷ reply.Refused NoOpenRun ∷ reply.Duplicate 1 ∷ []
@@ -163,7 +164,7 @@ signals = refl
 
 -- A signal that has no room closes the run, and isn't recorded.
 no_room : replies tight no_book (
-    command.Register (codes "w") ∷ command.Start (codes "q") (codes "f") 1 [] 0
+    command.Register (codes "w") ∷ start_of (codes "q") (codes "f") 1 [] 0
     ∷ command.Signal (codes "a") (codes "f") (codes "s") (int 1) 1 ∷ command.Signal (codes "b") (codes "f") (codes "s") (int 2) 2
     ∷ command.Signal (codes "c") (codes "f") (codes "s") (int 3) 3 ∷ command.Signal (codes "c") (codes "f") (codes "s") (int 3) 3 ∷ command.History 1 ∷ [])
     ≡ reply.Registered 1 ∷ reply.Started 1 ∷ reply.Recorded 1 2 ∷ reply.Recorded 1 3 ∷ reply.Full 1 4 ∷ reply.Refused NoOpenRun ∷ reply.History (
@@ -175,7 +176,7 @@ no_room = refl
 ---- Ticks
 
 abbrev sleeps : Bytes → Bytes → ℕ → ℕ → Command
-sleeps q f d at = command.Start q f 1 (int d ∷ []) at
+sleeps q f d at = start_of q f 1 (int d ∷ []) at
 
 -- Timers that are due at one moment fire by their runs.
 by_run : replies rules no_book (
@@ -195,7 +196,7 @@ none_left = refl
 
 -- A run that continues as new begins the next one at the same moment; its timer isn't due yet.
 continues : replies rules no_book (
-    command.Register (codes "m") ∷ command.Start (codes "q") (codes "f") 1 (int 0 ∷ []) 0 ∷ command.Tick 10 ∷ command.History 1 ∷ command.History 2 ∷ [])
+    command.Register (codes "m") ∷ start_of (codes "q") (codes "f") 1 (int 0 ∷ []) 0 ∷ command.Tick 10 ∷ command.History 1 ∷ command.History 2 ∷ [])
     ≡ reply.Registered 1 ∷ reply.Started 1 ∷ reply.Fired 1 false
     ∷ reply.History (came 1 0 (input.Started (int 0 ∷ [])) ∷ asked 2 0 (cmd.StartTimer 10) ∷ came 3 10 (input.TimerFired 2) ∷ asked 4 10 (cmd.ContinueAsNew (int 1 ∷ [])) ∷ [])
     ∷ reply.History (came 1 10 (input.Started (int 1 ∷ [])) ∷ asked 2 10 (cmd.StartTimer 20) ∷ []) ∷ []
@@ -205,11 +206,11 @@ continues = refl
 ---- Upgrades
 
 abbrev begun : List Command
-begun = command.Register (codes "euros") ∷ command.Register (codes "patched") ∷ command.Register (codes "dollars") ∷ command.Start (codes "q") (codes "f") 1 [] 0 ∷ []
+begun = command.Register (codes "euros") ∷ command.Register (codes "patched") ∷ command.Register (codes "dollars") ∷ start_of (codes "q") (codes "f") 1 [] 0 ∷ []
 
 -- A text that wraps the old one takes over; a new run of it records the marker.
 upgrades : replies rules no_book (
-    begun ++ command.Upgrade 1 2 ∷ command.Complete 1 2 1 (int 5) 7 ∷ command.Start (codes "r") (codes "f") 2 [] 0 ∷ command.History 1 ∷ command.History 2 ∷ [])
+    begun ++ command.Upgrade 1 2 ∷ complete_of 1 2 1 (int 5) 7 ∷ start_of (codes "r") (codes "f") 2 [] 0 ∷ command.History 1 ∷ command.History 2 ∷ [])
     ≡ reply.Registered 1 ∷ reply.Registered 2 ∷ reply.Registered 3 ∷ reply.Started 1 ∷ reply.Upgraded 1 2 ∷ reply.Recorded 1 3 ∷ reply.Started 2
     ∷ reply.History (came 1 0 (input.Started []) ∷ asked 2 0 (cmd.Schedule (codes "p") (Text (codes "eur") ∷ []) 1 0 kind.Int)
     ∷ came 3 7 (input.ActivityCompleted 2 (int 5)) ∷ asked 4 7 (cmd.Complete (int 5)) ∷ [])
@@ -229,11 +230,11 @@ stays = refl
 ---- Failed attempts
 
 abbrev tried : List Command
-tried = command.Register (codes "r") ∷ command.Start (codes "q") (codes "f") 1 [] 1000 ∷ []
+tried = command.Register (codes "r") ∷ start_of (codes "q") (codes "f") 1 [] 1000 ∷ []
 
 -- The last attempt alone is recorded.
 fails : replies rules no_book (
-    tried ++ command.Fail 1 2 1 (codes "no") 2000 ∷ command.Complete 1 2 1 (int 1) 2000 ∷ command.Fail 1 2 2 (codes "no") 900 ∷ command.Fail 1 2 3 (codes "no") 4000 ∷ command.History 1 ∷ [])
+    tried ++ fail_of 1 2 1 (codes "no") 2000 ∷ complete_of 1 2 1 (int 1) 2000 ∷ fail_of 1 2 2 (codes "no") 900 ∷ fail_of 1 2 3 (codes "no") 4000 ∷ command.History 1 ∷ [])
     ≡ reply.Registered 1 ∷ reply.Started 1 ∷ reply.Retry 1 2 2500 ∷ reply.Refused OldAttempt ∷ reply.Retry 1 3 1500 ∷ reply.Recorded 1 3 ∷ reply.History (
     came 1 1000 (input.Started []) ∷ asked 2 1000 (cmd.Schedule (codes "p") (Text (codes "eur") ∷ []) 3 500 kind.Int)
     ∷ came 3 4000 (input.ActivityFailed 2 (codes "no")) ∷ asked 4 4000 (cmd.Fail cause.ActivityFailed (codes "no")) ∷ []) ∷ []
@@ -241,13 +242,13 @@ unfolding outcome register start complete fail history report_refusal failure_re
 fails = refl
 
 -- Its refusals in their order.
-failures : replies rules (after rules no_book tried) (command.Fail 2 2 9 [] 1 ∷ command.Fail 1 3 9 [] 1 ∷ command.Fail 1 2 9 [] 1 ∷ [])
+failures : replies rules (after rules no_book tried) (fail_of 2 2 9 [] 1 ∷ fail_of 1 3 9 [] 1 ∷ fail_of 1 2 9 [] 1 ∷ [])
     ≡ reply.Refused NoRun ∷ reply.Refused NotOpen ∷ reply.Refused OldAttempt ∷ []
 unfolding outcome register start fail failure_refusal turned
 failures = refl
 
 -- A next attempt is ready at the last moment at the latest.
-last_pause : replies rules (after rules no_book tried) (command.Fail 1 2 1 [] 999999999999900 ∷ []) ≡ reply.Retry 1 2 1000000000000000 ∷ []
+last_pause : replies rules (after rules no_book tried) (fail_of 1 2 1 [] 999999999999900 ∷ []) ≡ reply.Retry 1 2 1000000000000000 ∷ []
 unfolding outcome register start fail failure_refusal turned
 last_pause = refl
 
@@ -257,9 +258,9 @@ last_pause = refl
 abbrev several : List Command
 several =
     command.Register (codes "r") ∷ command.Register (codes "b") ∷ command.Register (codes "t")
-    ∷ command.Start (codes "q1") (codes "f1") 1 [] 1000 ∷ command.Start (codes "q2") (codes "f2") 2 [] 1200
-    ∷ command.Start (codes "q3") (codes "f3") 3 (int 50 ∷ []) 1200 ∷ command.Fail 1 2 1 (codes "no") 2000
-    ∷ command.Tick 1250 ∷ command.Start (codes "q4") (codes "f4") 2 [] 1300 ∷ []
+    ∷ start_of (codes "q1") (codes "f1") 1 [] 1000 ∷ start_of (codes "q2") (codes "f2") 2 [] 1200
+    ∷ start_of (codes "q3") (codes "f3") 3 (int 50 ∷ []) 1200 ∷ fail_of 1 2 1 (codes "no") 2000
+    ∷ command.Tick 1250 ∷ start_of (codes "q4") (codes "f4") 2 [] 1300 ∷ []
 
 abbrev failing : OpenRun
 failing =
@@ -303,8 +304,8 @@ sleeping events at waits =
 
 -- A signal that lies there isn't waited for; behind the sleep it is.
 lies_there : replies rules no_book (
-    command.Register (codes "s") ∷ command.Start (codes "q") (codes "f") 1 [] 0 ∷ command.Open 1 1
-    ∷ command.Signal (codes "a") (codes "f") (codes "s") (int 1) 7 ∷ command.Open 1 1 ∷ command.Start (codes "r") (codes "g") 1 [] 0
+    command.Register (codes "s") ∷ start_of (codes "q") (codes "f") 1 [] 0 ∷ command.Open 1 1
+    ∷ command.Signal (codes "a") (codes "f") (codes "s") (int 1) 7 ∷ command.Open 1 1 ∷ start_of (codes "r") (codes "g") 1 [] 0
     ∷ command.Tick 50 ∷ command.Open 1 1 ∷ [])
     ≡ reply.Registered 1 ∷ reply.Started 1 ∷ reply.Open (sleeping 2 0 [] ∷ []) None ∷ reply.Recorded 1 3 ∷ reply.Open (sleeping 3 7 [] ∷ []) None
     ∷ reply.Started 2 ∷ reply.Fired 2 false

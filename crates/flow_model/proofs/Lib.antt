@@ -1,6 +1,7 @@
 pub mod DueFirst
 pub mod FirstFault
 pub mod WellFormedRows
+mod Commands
 mod BookRows
 mod CommandRows
 pub mod Awaits

@@ -390,10 +390,10 @@ list_open program_of b from most =
 -- The outcome of a command.
 unfoldable pub outcome : Rules → Book → Command → Outcome
 outcome u b (command.Register body) = register u.program_of b body
-outcome u b (command.Start request flow text vs at) = start u.program_of b request flow text vs at
+outcome u b (command.Start s) = start u.program_of b s.request s.flow s.text s.arguments s.at
 outcome u b (command.Signal request flow name v at) = signal u b request flow name v at
-outcome u b (command.Complete run event attempt v at) = complete u b run event attempt v at
-outcome u b (command.Fail run event attempt reason at) = fail u b run event attempt reason at
+outcome u b (command.Complete c) = complete u b c.run c.event c.attempt c.value c.at
+outcome u b (command.Fail f) = fail u b f.run f.event f.attempt f.reason f.at
 outcome u b (command.Tick at) = tick u b at
 outcome u b (command.Terminate run reason at) = terminate b run reason at
 outcome u b (command.Upgrade run text) = upgrade u.program_of b run text

@@ -24,3 +24,4 @@ pub mod Meaning
 pub mod World
 pub mod Logs
 pub mod Checked
+pub mod Answers

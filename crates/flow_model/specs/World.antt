@@ -112,10 +112,10 @@ reported w st None report = w
 reported w st (Some a) report = submitted w st (report a)
 
 abbrev pub completion : Value → ℕ → Attempt → Command
-completion v at a = command.Complete a.run a.event a.attempt v at
+completion v at a = command.Complete (record { run = a.run; event = a.event; attempt = a.attempt; value = v; at = at })
 
 abbrev pub failure : Bytes → ℕ → Attempt → Command
-failure reason at a = command.Fail a.run a.event a.attempt reason at
+failure reason at a = command.Fail (record { run = a.run; event = a.event; attempt = a.attempt; reason = reason; at = at })
 
 abbrev pub taken : World → Stage → ℕ → World
 taken w Idle k =

@@ -1,5 +1,5 @@
 //! Two programs compared: names, parameters, declarations, and then their bodies.
-ghost use Rattle.std.specs.Prelude.{◌≡◌, map, Some, None, IfErr, OnOk};
+ghost use Rattle.std.specs.Prelude.{◌≡◌, [], map, Some, None, IfErr, IfOk, OnOk};
 ghost use Rattle.flow_base.specs.Shown.{shown_block, shown_declaration, shown_program};
 ghost use Rattle.flow_patch.specs.Behind.{behind, ended, unknown_in};
 ghost use Rattle.flow_patch.specs.Settle.{is_among};
@@ -89,18 +89,7 @@ fn compare_declarations(
     ensures place { IfErr result (λ at. difference_of_declarations (map shown_declaration old.now)
         (map shown_declaration new.now) behind ≡ Some at) }
 {
-    let mut rest = new;
-    for declaration in old {
-        match rest.split_first() {
-            Some((other, more)) => {
-                if !same_declaration(declaration, other) {
-                    return Err(place_of_declaration(other));
-                }
-                rest = more;
-            }
-            None => return Err(behind),
-        }
-    }
+    let _more = more_declared(old, new, behind)?;
     Ok(())
 }
 
@@ -108,6 +97,27 @@ fn compare_declarations(
 fn compare_all(old: &[Declaration], new: &[Declaration], behind: usize) -> Result<(), usize>
     ensures same { OnOk result (difference_of_all (map shown_declaration old.now) (map shown_declaration new.now) behind ≡ None) }
     ensures place { IfErr result (λ at. difference_of_all (map shown_declaration old.now)
+        (map shown_declaration new.now) behind ≡ Some at) }
+{
+    let more = more_declared(old, new, behind)?;
+    match more.split_first() {
+        Some((other, _)) => Err(place_of_declaration(other)),
+        None => Ok(()),
+    }
+}
+
+/// What the new text declares behind the declarations of the old one, or the place where it lacks one of them.
+fn more_declared<'a>(
+    old: &[Declaration],
+    new: &'a [Declaration],
+    behind: usize,
+) -> Result<&'a [Declaration], usize>
+    ensures more { OnOk result (difference_of_declarations (map shown_declaration old.now) (map shown_declaration new.now) behind ≡ None) }
+    ensures all { IfOk result (λ more. difference_of_all (map shown_declaration old.now)
+        (map shown_declaration new.now) behind ≡ difference_of_all [] (map shown_declaration more.now) behind) }
+    ensures place { IfErr result (λ at. difference_of_declarations (map shown_declaration old.now)
+        (map shown_declaration new.now) behind ≡ Some at) }
+    ensures place_of_all { IfErr result (λ at. difference_of_all (map shown_declaration old.now)
         (map shown_declaration new.now) behind ≡ Some at) }
 {
     let mut rest = new;
@@ -122,10 +132,7 @@ fn compare_all(old: &[Declaration], new: &[Declaration], behind: usize) -> Resul
             None => return Err(behind),
         }
     }
-    match rest.split_first() {
-        Some((other, _)) => Err(place_of_declaration(other)),
-        None => Ok(()),
-    }
+    Ok(rest)
 }
 
 /// The place of the first statement, or of the brace where there is none.

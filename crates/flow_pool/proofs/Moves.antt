@@ -5,7 +5,7 @@ use mathlib.Core.Option.{Option, none, some, some-ne-none, some-injective}
 use lib.ListN.{get_elem?}
 use Rattle.crossbeam_channel.specs.Fifo.{Pushes, Pops, Forks, Merges, Learns, Held}
 use Rattle.atomic_table.proofs.Lists.{at_set}
-use Rattle.flow_machine.specs.declared.task.Task.{Task}
+use Rattle.flow_base.specs.declared.task.Task.{Task}
 use Rattle.flow_pool.specs.declared.hand.Hand.{Hand}
 use Rattle.flow_pool.specs.declared.hand.Back.{Back}
 use Rattle.flow_pool.specs.Orders.{feeding, working, gone, back_of, Takings, tasks_of, took_by, AreBelow, AreTheirs, Delivers, FitsFeed, FitsWorker, AreHome, IsInOrder, Keeps, IsSeen, WasEmpty}

@@ -4,7 +4,7 @@ use Rattle.std.proofs.lemmas.Option.{same_Some, none-some}
 use Rattle.std.specs.List.{AllByRecursion, slice_get}
 use Rattle.flow_base.specs.declared.command.Command.{Command}
 use Rattle.flow_pool.specs.declared.activity.Attempt.{Attempt}
-use Rattle.flow_machine.specs.declared.task.Task.{Task}
+use Rattle.flow_base.specs.declared.task.Task.{Task}
 use Rattle.flow_pool.specs.Reports.{Telling, first_named, is_left, MayCome, IsUnheard, Reported, Does, GoesOn}
 
 -- one more that wasn't heard

@@ -8,7 +8,7 @@ use Rattle.flow_base.specs.declared.command.Reply.TheVariants as reply
 use Rattle.flow_base.specs.declared.code.Code.TheVariants as code
 use Rattle.flow_pool.specs.declared.activity.Attempt.{Attempt}
 use Rattle.flow_pool.specs.declared.activity.Attempt.TheVariants.{Done, Failed}
-use Rattle.flow_machine.specs.declared.task.Task.{Task}
+use Rattle.flow_base.specs.declared.task.Task.{Task}
 use Rattle.flow_pool.specs.declared.report.Unheard.{Unheard}
 use Rattle.flow_pool.specs.declared.report.Unheard.TheVariants as unheard
 use Rattle.flow_pool.specs.Attempts.{failed_with}
@@ -44,8 +44,8 @@ Telling = Command × Heard
 
 -- the report of an attempt
 abbrev pub report_of : Task → Attempt → ℕ → Command
-report_of t (Done v) at = command.Complete t.run t.event t.attempt v at
-report_of t (Failed reason) at = command.Fail t.run t.event t.attempt reason at
+report_of t (Done v) at = command.Complete (record { run = t.run; event = t.event; attempt = t.attempt; value = v; at = at })
+report_of t (Failed reason) at = command.Fail (record { run = t.run; event = t.event; attempt = t.attempt; reason = reason; at = at })
 
 -- the first with this name
 abbrev pub first_named : {X : Type 0} → (X → List ℕ) → List ℕ → List X → Option X

@@ -1,9 +1,9 @@
 ghost use Rattle.std.specs.Prelude.{◌≡◌, ◌≤◌, IfOk, length};
 ghost use Rattle.flow_pool.specs.Attempts.{failed_with};
 
+use flow_base::task::Task;
 use flow_base::text::Text;
 use flow_base::value::Value;
-use flow_machine::task::Task;
 use std::alloc::{AllocError, Global};
 
 /// What came of an attempt.
@@ -32,7 +32,7 @@ impl Attempt {
 /// process may end before its report is kept.
 pub trait Activity {
     ghost use Rattle.std.specs.Prelude.{◌≡◌, List, ℕ, IfOk};
-    ghost use Rattle.flow_machine.specs.declared.task.Task.{Task};
+    ghost use Rattle.flow_base.specs.declared.task.Task.{Task};
     ghost use Rattle.flow_pool.specs.declared.activity.Attempt.{Attempt};
 
     /// What programs call it.

@@ -2,15 +2,16 @@
 ghost use Rattle.std.specs.Prelude.{◌≡◌, ◌<◌, ◌≤◌, None, ℕ, List, length, is_some, IfOk, IfSome, IfNone, slice_get};
 ghost use Rattle.flow_pool.specs.Attempts.{failed_with};
 ghost use Rattle.flow_pool.specs.Reports.{first_named, is_left, MayCome};
-ghost use Rattle.flow_machine.specs.declared.task.Task.{Task};
+ghost use Rattle.flow_base.specs.declared.task.Task.{Task};
 ghost use Rattle.flow_pool.specs.declared.activity.Attempt.{Attempt};
 
 use crate::activity::{Activity, Attempt};
 use crate::unknown::Unknown;
-use flow_machine::task::Task;
+use flow_base::task::Task;
+use flow_timers::pause::Pause;
 use std::alloc::{AllocError, Global};
 use std::sync::Wait;
-use std::thread;
+use std::time;
 
 // Where the first activity of this name stands.
 fn place_of<A: Activity>(activities: &[A], name: &str) -> Option<usize>
@@ -60,8 +61,8 @@ fn attempted<A: Activity>(
     }
 }
 
-/// Makes an attempt, again and again while memory is missing.
-pub(crate) fn attempt<R: Wait, A: Activity>(
+/// Makes an attempt, again and again while memory is missing, and waits longer each time.
+pub(crate) fn attempt<R: Wait + time::Clock, A: Activity>(
     rt: &R,
     alloc: Global,
     activities: &mut Vec<A>,
@@ -73,25 +74,27 @@ pub(crate) fn attempt<R: Wait, A: Activity>(
     ensures named { (name : List ℕ) → is_some (first_named A.named name activities.new.items) ≡ is_some
         (first_named A.named name activities.old.items) }
 {
+    let mut pause = Pause::new();
     'tries: for _ in rt.forever() {
         if let Ok(attempt) = attempted(alloc, activities, task) {
             return attempt;
         }
-        thread::yield_now();
+        pause.wait(rt);
     }
     unreachable!()
 }
 
 /// A failure for a reason, as soon as there's memory for it.
-pub(crate) fn failure<R: Wait>(rt: &R, alloc: Global, reason: &str) -> Attempt
+pub(crate) fn failure<R: Wait + time::Clock>(rt: &R, alloc: Global, reason: &str) -> Attempt
     requires { length reason.now ≤ 4096 }
     ensures { result ≡ failed_with reason.now }
 {
+    let mut pause = Pause::new();
     'tries: for _ in rt.forever() {
         if let Ok(attempt) = Attempt::failed(alloc, reason) {
             return attempt;
         }
-        thread::yield_now();
+        pause.wait(rt);
     }
     unreachable!()
 }

@@ -4,78 +4,18 @@ ghost use Rattle.flow_pool.specs.Attempts.{echoed, added, flaked};
 ghost use Rattle.flow_pool.specs.Builtin.{all_builtin};
 
 use crate::activity::{Activity, Attempt};
+use flow_base::task::Task;
 use flow_base::value::Value;
-use flow_machine::task::Task;
 use std::alloc::{AllocError, Global};
-
-/// Gives its first argument.
-#[derive(Clone, Copy, Debug, Drop)]
-pub struct Echo;
-
-impl Activity for Echo {
-    ghost use Rattle.std.specs.Prelude.{◌≡◌, codes};
-    ghost use Rattle.flow_pool.specs.Attempts.{echoed};
-
-    ghost named = { λ _. codes "echo" };
-
-    ghost gives = { λ _ t a. a ≡ echoed t.args };
-
-    fn name(&self) -> &str {
-        "echo"
-    }
-
-    fn run(&mut self, alloc: Global, task: &Task) -> Result<Attempt, AllocError> {
-        first_of(alloc, task.args.as_slice())
-    }
-}
-
-/// Gives the sum of two ints.
-#[derive(Clone, Copy, Debug, Drop)]
-pub struct Add;
-
-impl Activity for Add {
-    ghost use Rattle.std.specs.Prelude.{◌≡◌, codes};
-    ghost use Rattle.flow_pool.specs.Attempts.{added};
-
-    ghost named = { λ _. codes "add" };
-
-    ghost gives = { λ _ t a. a ≡ added t.args };
-
-    fn name(&self) -> &str {
-        "add"
-    }
-
-    fn run(&mut self, alloc: Global, task: &Task) -> Result<Attempt, AllocError> {
-        sum_of(alloc, task.args.as_slice())
-    }
-}
-
-/// Fails twice, and then gives its first argument.
-#[derive(Clone, Copy, Debug, Drop)]
-pub struct Flaky;
-
-impl Activity for Flaky {
-    ghost use Rattle.std.specs.Prelude.{◌≡◌, codes};
-    ghost use Rattle.flow_pool.specs.Attempts.{flaked};
-
-    ghost named = { λ _. codes "flaky" };
-
-    ghost gives = { λ _ t a. a ≡ flaked t.attempt t.args };
-
-    fn name(&self) -> &str {
-        "flaky"
-    }
-
-    fn run(&mut self, alloc: Global, task: &Task) -> Result<Attempt, AllocError> {
-        from_third(alloc, task.attempt, task.args.as_slice())
-    }
-}
 
 /// One of the activities that the program has.
 #[derive(Clone, Copy, Debug, Drop)]
 pub enum Builtin {
+    /// Gives its first argument.
     Echo,
+    /// Gives the sum of two ints.
     Add,
+    /// Fails twice, and then gives its first argument.
     Flaky,
 }
 

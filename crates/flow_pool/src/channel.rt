@@ -7,7 +7,7 @@ ghost use Rattle.flow_pool.specs.Ends.{put_by, made_by, back_at, came_back, know
 use crate::ends::{Door, TaskReceiver, TaskSender, receiver, sender, with_task};
 use crate::hand::{AddsWorker, Learnt, Puts, Returns, Takes, Tells};
 use crossbeam_channel::{SendError, bounded_with};
-use flow_machine::task::Task;
+use flow_base::task::Task;
 use std::alloc::{AllocError, Global};
 use std::snapshot::Snapshot;
 use std::sync::Wait;

@@ -1,16 +1,16 @@
 //! The dispatcher: hands the tasks that were posted to the workers.
 ghost use Rattle.std.specs.Prelude.{◌≡◌, ◌⊎◌, [], ◌++◌, List, length};
 ghost use Rattle.flow_pool.specs.Ends.{put_by, made_by, back_at, came_back, IsSameFeed};
-ghost use Rattle.flow_machine.specs.declared.task.Task.{Task};
+ghost use Rattle.flow_base.specs.declared.task.Task.{Task};
 
 use crate::ends::TaskSender;
-use flow_machine::task::Task;
+use flow_base::task::Task;
 use std::sync::Wait;
 
 /// Gives the tasks that were posted, as the hub does.
 pub trait TaskSource: Drop {
     ghost use Rattle.std.specs.Prelude.{◌≡◌, [], ◌∷◌, ◌++◌, List, IfNone, MatchOption};
-    ghost use Rattle.flow_machine.specs.declared.task.Task.{Task};
+    ghost use Rattle.flow_base.specs.declared.task.Task.{Task};
 
     /// All that it gave, for contracts alone.
     ghost given: { Self → List Task };

@@ -5,7 +5,7 @@ ghost use Rattle.crossbeam_channel.specs.Ends.{sends_on, receives_on};
 
 use crate::hand::{Hand, InTurn, Tells, Truly};
 use crossbeam_channel::{Pass, RuledReceiver, RuledSender};
-use flow_machine::task::Task;
+use flow_base::task::Task;
 use std::snapshot::Snapshot;
 use unseen::{Listed, Makes};
 

@@ -1,6 +1,6 @@
 //! What the ends of the channel of tasks know, and what its calls tell. No value of these is made.
 use crossbeam_channel::protocol::{Join, Lesson, Outcome, Protocol, Split};
-use flow_machine::task::Task;
+use flow_base::task::Task;
 use std::collections::LinkedList;
 use std::marker::PhantomData;
 

@@ -3,9 +3,9 @@ ghost use Rattle.std.specs.Prelude.{◌≡◌};
 ghost use Rattle.flow_pool.specs.Reports.{report_of, unheard_number, is_final};
 
 use crate::activity::Attempt;
-use flow_base::command::{Command, Reply};
+use flow_base::command::{Command, Complete, Fail, Reply};
 use flow_base::number::Moment;
-use flow_machine::task::Task;
+use flow_base::task::Task;
 use std::sync::Wait;
 
 /// Why a report wasn't answered by a reply.
@@ -69,8 +69,23 @@ pub trait Reports {
 pub fn report(task: &Task, attempt: Attempt, at: Moment) -> Command
     ensures { result ≡ report_of task.now attempt at }
 {
+    let run = task.run;
+    let event = task.event;
+    let number = task.attempt;
     match attempt {
-        Attempt::Done(value) => Command::Complete(task.run, task.event, task.attempt, value, at),
-        Attempt::Failed(reason) => Command::Fail(task.run, task.event, task.attempt, reason, at),
+        Attempt::Done(value) => Command::Complete(Complete {
+            run,
+            event,
+            attempt: number,
+            value,
+            at,
+        }),
+        Attempt::Failed(reason) => Command::Fail(Fail {
+            run,
+            event,
+            attempt: number,
+            reason,
+            at,
+        }),
     }
 }

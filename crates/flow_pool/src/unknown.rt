@@ -1,5 +1,5 @@
 //! What becomes of a task whose activity no worker has.
-use flow_machine::task::Task;
+use flow_base::task::Task;
 use std::sync::Wait;
 
 /// Decides of the tasks that a worker has no activity for.

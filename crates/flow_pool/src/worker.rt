@@ -1,6 +1,6 @@
 //! A worker: takes tasks, makes an attempt of each, and reports it.
 ghost use Rattle.std.specs.Prelude.{◌≡◌, ◌++◌, ℕ, List, is_err, is_some};
-ghost use Rattle.flow_machine.specs.declared.task.Task.{Task};
+ghost use Rattle.flow_base.specs.declared.task.Task.{Task};
 ghost use Rattle.flow_pool.specs.declared.activity.Attempt.{Attempt};
 ghost use Rattle.flow_pool.specs.Ends.{known_by, number_of, taken_by, IsSameEnd};
 ghost use Rattle.flow_pool.specs.Orders.{WasEmpty};
@@ -14,17 +14,24 @@ use crate::report::{Reports, Unheard, report};
 use crate::unknown::Unknown;
 use flow_base::code::Code;
 use flow_base::command::{Command, Reply};
-use flow_machine::task::Task;
+use flow_base::task::Task;
 use flow_timers::Clock;
+use flow_timers::pause::Pause;
 use std::alloc::Global;
 use std::sync::Wait;
-use std::thread;
+use std::time;
 
-// Tells a report until there's a reply, or nobody to tell.
-fn tell<R: Wait, S: Reports>(rt: &R, reports: &mut S, command: Command) -> Result<Reply, Unheard>
+// Tells a report until there's a reply, or nobody to tell. It waits longer each time, since what stands in the way may last, as a full
+// disk does.
+fn tell<R: Wait + time::Clock, S: Reports>(
+    rt: &R,
+    reports: &mut S,
+    command: Command,
+) -> Result<Reply, Unheard>
     ensures { (log : List Telling) × (S.told reports.new ≡ S.told reports.old ++ log) × Tells command log result }
 {
     let mut command = command;
+    let mut pause = Pause::new();
     'tries: for _ in rt.forever() {
         match reports.tell(rt, command) {
             Ok(reply) => return Ok(reply),
@@ -35,7 +42,7 @@ fn tell<R: Wait, S: Reports>(rt: &R, reports: &mut S, command: Command) -> Resul
                 command = back;
             }
         }
-        thread::yield_now();
+        pause.wait(rt);
     }
     unreachable!()
 }
@@ -48,7 +55,7 @@ fn has_wrong_type(heard: &Result<Reply, Unheard>) -> bool
 }
 
 // Tells the failure that follows E66. Whether nobody is left to tell.
-fn follow<R: Wait, S: Reports, C: Clock>(
+fn follow<R: Wait + time::Clock, S: Reports, C: Clock>(
     rt: &R,
     alloc: Global,
     task: &Task,
@@ -67,7 +74,7 @@ fn follow<R: Wait, S: Reports, C: Clock>(
 }
 
 // Makes an attempt of a task and reports it. Whether nobody is left to tell.
-fn work<R: Wait, A: Activity, S: Reports, C: Clock>(
+fn work<R: Wait + time::Clock, A: Activity, S: Reports, C: Clock>(
     rt: &R,
     alloc: Global,
     activities: &mut Vec<A>,
@@ -88,7 +95,7 @@ fn work<R: Wait, A: Activity, S: Reports, C: Clock>(
 }
 
 // Does what is to be done of a task: leaves it alone, or makes an attempt and reports it. Whether nobody is left to tell.
-fn deal<R: Wait, A: Activity, S: Reports, U: Unknown, C: Clock>(
+fn deal<R: Wait + time::Clock, A: Activity, S: Reports, U: Unknown, C: Clock>(
     rt: &R,
     alloc: Global,
     activities: &mut Vec<A>,
@@ -114,9 +121,16 @@ fn deal<R: Wait, A: Activity, S: Reports, U: Unknown, C: Clock>(
 
 /// Takes tasks, makes an attempt of each by the first activity of its name, and reports it: what it gave or why it failed, at
 /// the moment that the clock tells then. A task whose activity isn't there fails with `no such activity`, or is left alone; and after
-/// E66 the failure `wrong type` is reported. A report is made again after E01, E80 and E90. It ends only where the channel was empty, as
-/// after its sender is gone, or after E84, E85 and E91; both ends come back.
-pub fn worker<R: Wait, A: Activity + Drop, S: Reports, U: Unknown + Drop, C: Clock, E: Tells>(
+/// E66 the failure `wrong type` is reported. A report is made again after E01, E80 and E90, each time after a longer pause, of a second
+/// at most. It ends only where the channel was empty, as after its sender is gone, or after E84, E85 and E91; both ends come back.
+pub fn worker<
+    R: Wait + time::Clock,
+    A: Activity + Drop,
+    S: Reports,
+    U: Unknown + Drop,
+    C: Clock,
+    E: Tells,
+>(
     rt: &R,
     alloc: Global,
     activities: Vec<A>,

@@ -2,8 +2,8 @@
 use Rattle.std.proofs.Common.{◌≡◌, ◌||◌, ◌&&◌, not, ℕ, zero, suc, ◌+◌, Bool, true, false, cond, List, [], ◌∷◌, ◌++◌, length, drop, refl, sym, ap, ◌∙◌, subst, append_assoc, arith, length-append, slice_index_or, ◌<◌, ◌⊎◌, inl, inr}
 use Rattle.std.proofs.lemmas.List.{append-nil, at_drop_more}
 use Rattle.std.specs.BTreeSet.{BTreeSet, contains}
-use Rattle.flow_machine.specs.declared.task.Task.{Task}
-use Rattle.flow_machine.specs.Keys.{Key, key_of}
+use Rattle.flow_base.specs.declared.task.Task.{Task}
+use Rattle.flow_base.specs.Keys.{Key, key_of}
 use Rattle.flow_queues.specs.Posting.{key_cmp, is_key, has_key, HasKeys, new_ones, marks_of, chosen}
 use Rattle.flow_queues.proofs.Once.{off, has_last, key_is}
 

@@ -4,8 +4,8 @@ use Rattle.std.proofs.lemmas.List.{append-nil}
 use Rattle.std.proofs.Common.{Ordering, Less, Equal, Greater}
 use Rattle.std.specs.Ordering.{nat_cmp, is_eq, ordering_then}
 use Rattle.std.proofs.lemmas.Cmp.{ranked, nat_cmp_total, tied_itself}
-use Rattle.flow_machine.specs.declared.task.Task.{Task}
-use Rattle.flow_machine.specs.Keys.{Key, key_of}
+use Rattle.flow_base.specs.declared.task.Task.{Task}
+use Rattle.flow_base.specs.Keys.{Key, key_of}
 use Rattle.flow_queues.specs.Posting.{is_key, has_key, IsOnce, new_ones}
 
 pub off : {A : Type 0} → false ≡ true → A

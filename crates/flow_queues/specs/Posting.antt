@@ -4,8 +4,8 @@ use Rattle.std.specs.List.{list_any}
 use Rattle.std.specs.declared.cmp.Ordering.{Ordering}
 use Rattle.std.specs.Ordering.{nat_cmp, is_eq, ordering_then}
 use Rattle.std.specs.BTreeSet.{BTreeSet, contains}
-use Rattle.flow_machine.specs.declared.task.Task.{Task}
-use Rattle.flow_machine.specs.Keys.{Key, key_of}
+use Rattle.flow_base.specs.declared.task.Task.{Task}
+use Rattle.flow_base.specs.Keys.{Key, key_of}
 
 -- the order of keys: by run, event and attempt
 abbrev pub key_cmp : Key → Key → Ordering

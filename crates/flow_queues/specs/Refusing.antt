@@ -1,6 +1,6 @@
 -- What is answered by a code.
 use Rattle.flow_base.specs.declared.code.Code.{Code}
-use Rattle.flow_machine.specs.declared.submission.Taken.{Taken}
+use Rattle.flow_base.specs.declared.submission.Taken.{Taken}
 use Rattle.flow_queues.specs.declared.refused.Refused.{Refused}
 
 abbrev pub refused_by : Code → Taken → Refused

@@ -2,11 +2,11 @@
 ghost use Rattle.std.specs.Prelude.{◌≡◌, ◌≤◌, ◌+◌, ◌++◌, ◌&&◌, ◌||◌, cond, not, true, false, List, length, vec_len, IfOk, IfErr, OnErr};
 ghost use Rattle.std.specs.BTreeSet.{contains};
 ghost use Rattle.std.specs.VecDeque.{deque_len, deque_capacity};
-ghost use Rattle.flow_machine.specs.Keys.{Key, key_of as the_key};
-ghost use Rattle.flow_machine.specs.declared.task.Task.{Task as ATask};
+ghost use Rattle.flow_base.specs.Keys.{Key, key_of as the_key};
+ghost use Rattle.flow_base.specs.declared.task.Task.{Task as ATask};
 ghost use Rattle.flow_queues.specs.Posting.{HasKeys, chosen, has_key, is_key, key_cmp, marks_of, new_ones};
 
-use flow_machine::task::{Posted, Task};
+use flow_base::task::{Posted, Task};
 use std::alloc::{AllocError, Global};
 use std::collections::{BTreeSet, VecDeque};
 

@@ -2,27 +2,12 @@
 ghost use Rattle.std.specs.Prelude.{◌≡◌, ◌≢◌, ◌+◌, ◌<◌, ◌≤◌, [], ◌++◌, length, map, vec_len, slice_index_or, take, drop, remove, All, IfSome, IfNone, Some, slice_get};
 ghost use Rattle.std.specs.Vec.{vec_capacity};
 ghost use Rattle.std.specs.VecDeque.{deque_len, deque_capacity};
-ghost use Rattle.flow_machine.specs.declared.submission.Receipt.{Receipt as AReceipt};
 ghost use Rattle.flow_queues.specs.Refusing.{refused_by};
-ghost use Rattle.flow_queues.specs.declared.refused.Refused.{Refused as ARefused};
 
 use crate::refused::Refused;
 use flow_base::code::Code;
-use flow_machine::submission::{Receipt, Taken};
+use flow_base::submission::{Receipt, Taken};
 use std::collections::VecDeque;
-
-/// Where the receipt for a ticket stands. None where it isn't there.
-pub fn ticket_at(answered: &[Receipt], ticket: u64) -> Option<usize>
-    ensures found { IfSome result (λ k. (k < length answered.now) × ((d : AReceipt) → (slice_index_or answered.now k d).ticket ≡ ticket)) }
-    ensures none { IfNone result (All (λ r. r.ticket ≢ ticket) answered.now) }
-{
-    for k in 0..answered.len() {
-        if answered[k].ticket == ticket {
-            return Some(k);
-        }
-    }
-    None
-}
 
 /// Where a number stands among these. None where it isn't there.
 pub fn place_of(numbers: &[u64], number: u64) -> Option<usize>
@@ -59,20 +44,6 @@ pub fn push_receipts(answered: &mut Vec<Receipt>, mut receipts: Vec<Receipt>)
     if answered.append(&mut receipts).is_err() {
         unreachable!();
     }
-}
-
-/// Where the refusal of a ticket stands. None where it isn't there.
-pub fn refused_at(refused: &[Refused], ticket: u64) -> Option<usize>
-    ensures found { IfSome result (λ k. (k < length refused.now)
-        × ((d : ARefused) → (slice_index_or refused.now k d).asked.ticket ≡ ticket)) }
-    ensures none { IfNone result (All (λ r. r.asked.ticket ≢ ticket) refused.now) }
-{
-    for k in 0..refused.len() {
-        if refused[k].asked.ticket == ticket {
-            return Some(k);
-        }
-    }
-    None
 }
 
 /// Moves what was taken behind those that were answered by a code.

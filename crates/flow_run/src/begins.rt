@@ -81,6 +81,9 @@ pub fn begin(
     }
 }
 
+// What a statement does that begins, or want of memory.
+type Beginning = Result<Begun, EvalFault>;
+
 // A wait in a box of its own.
 fn boxed(alloc: Global, doing: Doing) -> Result<Box<Doing>, EvalFault>
     ensures { IfOk result (λ b. b.value ≡ doing) }
@@ -104,7 +107,7 @@ fn assign(
     t: &mut Store,
     name: &Key,
     e: &Expr,
-) -> Result<Begun, EvalFault>
+) -> Beginning
     ensures step { IfOk result (λ m. shown_begun table.now.lists.items (ALet 0 0 name.now (shown_expr e.now)) t.new m ≡ model.begin
         (shown_setting s.now) (shown_store t.old) (ALet 0 0 name.now (shown_expr e.now))) }
     ensures kept { IfOk result (λ m. KeepsStore t.old t.new m) }
@@ -144,7 +147,7 @@ fn call(
     retry: Retry,
     otherwise: &Option<Block>,
     links: &Links,
-) -> Result<Begun, EvalFault>
+) -> Beginning
     requires linked { IsLinked table.now.lists.items
         (ACall 0 into.now 0 activity.now (map shown_expr es.now) retry (shown_otherwise otherwise.now)) links.now }
     ensures step { IfOk result (λ m. shown_begun table.now.lists.items
@@ -178,13 +181,7 @@ fn call(
     }
 }
 
-fn sleep(
-    alloc: Global,
-    table: &ProgramTable,
-    s: &Setting,
-    t: &Store,
-    delay: &Expr,
-) -> Result<Begun, EvalFault>
+fn sleep(alloc: Global, table: &ProgramTable, s: &Setting, t: &Store, delay: &Expr) -> Beginning
     ensures step { IfOk result (λ m. shown_begun table.now.lists.items (ASleep 0 (shown_expr delay.now)) t.now m ≡ model.begin
         (shown_setting s.now) (shown_store t.now) (ASleep 0 (shown_expr delay.now))) }
     ensures kept { IfOk result (λ m. KeepsStore t.now t.now m) }
@@ -211,7 +208,7 @@ fn wait(
     t: &mut Store,
     into: &Key,
     signal: &Key,
-) -> Result<Begun, EvalFault>
+) -> Beginning
     ensures step { IfOk result (λ m. shown_begun table.now.lists.items (AWaitSignal 0 into.now 0 signal.now) t.new m ≡ model.begin
         (shown_setting s.now) (shown_store t.old) (AWaitSignal 0 into.now 0 signal.now)) }
     ensures kept { IfOk result (λ m. KeepsStore t.old t.new m) }
@@ -239,7 +236,7 @@ fn wait_for(
     delay: &Expr,
     late: &Block,
     list: usize,
-) -> Result<Begun, EvalFault>
+) -> Beginning
     requires linked { block_at table.now.lists.items list ≡ (shown_braced late.now).0 }
     ensures step { IfOk result (λ m. shown_begun table.now.lists.items
         (AWaitSignalFor 0 into.now 0 signal.now (shown_expr delay.now) (shown_braced late.now).0 0) t.new m ≡ model.begin
@@ -271,7 +268,7 @@ fn wait_open(
     at: Moment,
     late: &Block,
     list: usize,
-) -> Result<Begun, EvalFault>
+) -> Beginning
     requires linked { block_at table.now.lists.items list ≡ (shown_braced late.now).0 }
     ensures step { IfOk result (λ m. shown_begun table.now.lists.items
         (AWaitSignalFor 0 into.now 0 signal.now (ANow 0) (shown_braced late.now).0 0) t.now m ≡ model.waiting (shown_setting s.now)
@@ -300,7 +297,7 @@ fn pick(
     b: &Block,
     first: usize,
     second: usize,
-) -> Result<Begun, EvalFault>
+) -> Beginning
     requires first { block_at table.now.lists.items first ≡ (shown_braced a.now).0 }
     requires second { block_at table.now.lists.items second ≡ (shown_braced b.now).0 }
     ensures step { IfOk result (λ m. shown_begun table.now.lists.items
@@ -346,7 +343,7 @@ fn repeat(
     e: &Expr,
     body: &Block,
     list: usize,
-) -> Result<Begun, EvalFault>
+) -> Beginning
     requires linked { block_at table.now.lists.items list ≡ (shown_braced body.now).0 }
     ensures step { IfOk result (λ m. shown_begun table.now.lists.items
         (AWhile at (shown_expr e.now) (shown_braced body.now).0 (shown_braced body.now).1) t.new m ≡ model.begin (shown_setting s.now)
@@ -381,7 +378,7 @@ fn since_patch(
     b: &Block,
     first: usize,
     second: usize,
-) -> Result<Begun, EvalFault>
+) -> Beginning
     requires first { block_at table.now.lists.items first ≡ (shown_braced a.now).0 }
     requires second { block_at table.now.lists.items second ≡ (shown_braced b.now).0 }
     ensures step { IfOk result (λ m. shown_begun table.now.lists.items
@@ -406,13 +403,7 @@ fn since_patch(
 }
 
 // `deprecate`: a patch with two empty lists.
-fn deprecate(
-    alloc: Global,
-    table: &ProgramTable,
-    s: &Setting,
-    t: &mut Store,
-    id: &Key,
-) -> Result<Begun, EvalFault>
+fn deprecate(alloc: Global, table: &ProgramTable, s: &Setting, t: &mut Store, id: &Key) -> Beginning
     ensures step { IfOk result (λ m. shown_begun table.now.lists.items (ADeprecate 0 0 id.now) t.new m ≡ model.begin (shown_setting s.now)
         (shown_store t.old) (ADeprecate 0 0 id.now)) }
     ensures kept { IfOk result (λ m. KeepsStore t.old t.new m) }
@@ -432,13 +423,7 @@ fn deprecate(
     }
 }
 
-fn finish(
-    alloc: Global,
-    table: &ProgramTable,
-    s: &Setting,
-    t: &Store,
-    e: &Expr,
-) -> Result<Begun, EvalFault>
+fn finish(alloc: Global, table: &ProgramTable, s: &Setting, t: &Store, e: &Expr) -> Beginning
     ensures step { IfOk result (λ m. shown_begun table.now.lists.items (AReturn 0 (shown_expr e.now)) t.now m ≡ model.begin
         (shown_setting s.now) (shown_store t.now) (AReturn 0 (shown_expr e.now))) }
     ensures kept { IfOk result (λ m. KeepsStore t.now t.now m) }
@@ -449,13 +434,7 @@ fn finish(
     }
 }
 
-fn give_up(
-    alloc: Global,
-    table: &ProgramTable,
-    s: &Setting,
-    t: &Store,
-    e: &Expr,
-) -> Result<Begun, EvalFault>
+fn give_up(alloc: Global, table: &ProgramTable, s: &Setting, t: &Store, e: &Expr) -> Beginning
     ensures step { IfOk result (λ m. shown_begun table.now.lists.items (AFailWith 0 (shown_expr e.now)) t.now m ≡ model.begin
         (shown_setting s.now) (shown_store t.now) (AFailWith 0 (shown_expr e.now))) }
     ensures kept { IfOk result (λ m. KeepsStore t.now t.now m) }
@@ -467,13 +446,7 @@ fn give_up(
 }
 
 // `continue as new`: a run's first turn can't, so that a chain of runs doesn't go on without an input.
-fn go_on_anew(
-    alloc: Global,
-    table: &ProgramTable,
-    s: &Setting,
-    t: &Store,
-    es: &[Expr],
-) -> Result<Begun, EvalFault>
+fn go_on_anew(alloc: Global, table: &ProgramTable, s: &Setting, t: &Store, es: &[Expr]) -> Beginning
     ensures step { IfOk result (λ m. shown_begun table.now.lists.items (AContinue 0 (map shown_expr es.now)) t.now m ≡ model.begin
         (shown_setting s.now) (shown_store t.now) (AContinue 0 (map shown_expr es.now))) }
     ensures kept { IfOk result (λ m. KeepsStore t.now t.now m) }

@@ -59,7 +59,8 @@ pub fn begin(
     if !all_fit(&program.parameters, values) {
         return Ok(None);
     }
-    let mut cells = Vec::new(alloc);
+    // Room for one: most runs stay one cell, and a list that grows makes room for four.
+    let mut cells = Vec::with_capacity(alloc, 1)?;
     cells.push(branch(alloc, table, table.body)?)?;
     let variables = bind(alloc, &table.names, &program.parameters, values)?;
     Ok(Some(start_from(
@@ -148,14 +149,11 @@ pub fn deliver(
     }
 }
 
+// A run into which an input was delivered, none where it can't be, or want of memory.
+type Delivered = Result<Option<Turning>, EvalFault>;
+
 // A call gets its value and is over.
-fn complete(
-    alloc: Global,
-    table: &ProgramTable,
-    run: &Standing,
-    n: EventId,
-    v: &Value,
-) -> Result<Option<Turning>, EvalFault>
+fn complete(alloc: Global, table: &ProgramTable, run: &Standing, n: EventId, v: &Value) -> Delivered
     requires table { table.now ≡ run.now.table }
     requires whole { IsWhole run.now }
     requires is_open { run.now.state ≡ State.Open }
@@ -179,7 +177,7 @@ fn complete_at(
     n: EventId,
     v: &Value,
     i: usize,
-) -> Result<Option<Turning>, EvalFault>
+) -> Delivered
     requires table { table.now ≡ run.now.table }
     requires whole { IsWhole run.now }
     requires is_open { run.now.state ≡ State.Open }
@@ -204,13 +202,7 @@ fn complete_at(
 }
 
 // A call whose activity has failed does its `else`, or the run is to fail.
-fn fail(
-    alloc: Global,
-    table: &ProgramTable,
-    run: &Standing,
-    n: EventId,
-    text: &Text,
-) -> Result<Option<Turning>, EvalFault>
+fn fail(alloc: Global, table: &ProgramTable, run: &Standing, n: EventId, text: &Text) -> Delivered
     requires table { table.now ≡ run.now.table }
     requires whole { IsWhole run.now }
     requires is_open { run.now.state ≡ State.Open }
@@ -231,12 +223,7 @@ fn fail(
 }
 
 // A sleep is over, or a wait for a signal does what is to be done where none came.
-fn fire(
-    alloc: Global,
-    table: &ProgramTable,
-    run: &Standing,
-    n: EventId,
-) -> Result<Option<Turning>, EvalFault>
+fn fire(alloc: Global, table: &ProgramTable, run: &Standing, n: EventId) -> Delivered
     requires table { table.now ≡ run.now.table }
     requires whole { IsWhole run.now }
     requires is_open { run.now.state ≡ State.Open }
@@ -263,7 +250,7 @@ fn signal(
     run: &Standing,
     name: &Key,
     v: &Value,
-) -> Result<Option<Turning>, EvalFault>
+) -> Delivered
     requires table { table.now ≡ run.now.table }
     requires whole { IsWhole run.now }
     requires is_open { run.now.state ≡ State.Open }
@@ -282,11 +269,7 @@ fn signal(
     Ok(Some(p))
 }
 
-fn terminate(
-    alloc: Global,
-    table: &ProgramTable,
-    run: &Standing,
-) -> Result<Option<Turning>, EvalFault>
+fn terminate(alloc: Global, table: &ProgramTable, run: &Standing) -> Delivered
     ensures started { IfOk result (λ o. shown_started table.now.lists.items o ≡ Some
         (started_with tree.Done (slot_of run.now.variables) run.now.buffer (look_up run.now.decided) State.Terminated)) }
     ensures whole { IfOk result (λ o. IfSome o (λ p. IsWholeTurning table.now.lists.items p)) }

@@ -16,3 +16,5 @@ mod tasks;
 mod turn;
 pub mod waits;
 mod walk;
+
+pub use flow_base::event::{Cmd, Input};

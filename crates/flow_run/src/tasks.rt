@@ -27,14 +27,11 @@ pub enum Went {
     Ends(Box<Cmd>),
 }
 
+/// What one step does with a task, or want of memory.
+pub type Acted = Result<Went, EvalFault>;
+
 // A task that waits for nothing goes on.
-fn go_on(
-    alloc: Global,
-    table: &ProgramTable,
-    s: &Setting,
-    t: &mut Store,
-    cell: &mut Cell,
-) -> Result<Went, EvalFault>
+fn go_on(alloc: Global, table: &ProgramTable, s: &Setting, t: &mut Store, cell: &mut Cell) -> Acted
     requires linked { AreLinked table.now.lists.items }
     requires full { AreFull table.now.lists.items cell.old }
     requires idle { is_idle cell.old.doing ≡ true }
@@ -114,7 +111,7 @@ pub fn act(
     s: &Setting,
     t: &mut Store,
     cell: &mut Cell,
-) -> Result<Went, EvalFault>
+) -> Acted
     requires linked { AreLinked table.now.lists.items }
     requires full { AreFull table.now.lists.items cell.old }
     requires task { is_task cell.old.doing ≡ true }

@@ -44,8 +44,10 @@ pub fn branch(alloc: Global, table: &ProgramTable, list: usize) -> Result<Cell, 
     ensures mark { IfOk result (λ c. mark_of table.now.lists.items c ≡ One (rest_of (block_at table.now.lists.items list))) }
     ensures full { IfOk result (λ c. AreFull table.now.lists.items c) }
 {
+    // Room for one, which is what most branches need.
+    let places = Vec::with_capacity(alloc, 1)?;
     let mut cell = Cell {
-        places: Vec::new(alloc),
+        places,
         doing: Doing::Over,
     };
     enter(alloc, table, &mut cell, list)?;

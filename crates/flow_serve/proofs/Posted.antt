@@ -3,9 +3,9 @@ use Rattle.std.proofs.Common.{◌≡◌, ℕ, List, [], ◌∷◌, ◌++◌, len
 use mathlib.Core.List.{IsPrefix}
 use Rattle.std.specs.BTreeSet.{BTreeSet}
 use Rattle.sqlite_trees.specs.declared.store.Store.{Ghosts}
-use Rattle.flow_machine.specs.Keys.{Key}
-use Rattle.flow_machine.specs.declared.submission.Receipt.{Receipt}
-use Rattle.flow_machine.specs.declared.task.Task.{Task}
+use Rattle.flow_base.specs.Keys.{Key}
+use Rattle.flow_base.specs.declared.submission.Receipt.{Receipt}
+use Rattle.flow_base.specs.declared.task.Task.{Task}
 use Rattle.flow_model.specs.Apply.{after}
 use Rattle.flow_model.specs.Book.{Book}
 use Rattle.flow_commit.specs.Boards.{Boarded, IsBoardOf}
@@ -15,7 +15,7 @@ use Rattle.flow_queues.proofs.Once.{still_once}
 use Rattle.flow_hub.proofs.Growing.{prefix_self, prefix_trans}
 use Rattle.flow_engine.specs.Driving.{receipts_in}
 use Rattle.flow_queues.specs.declared.refused.Refused.{Refused}
-use Rattle.flow_machine.specs.declared.submission.Taken.{Taken}
+use Rattle.flow_base.specs.declared.submission.Taken.{Taken}
 use Rattle.flow_serve.specs.Boarding.{IsStill}
 use Rattle.flow_serve.specs.Serving.{HasAnswered}
 use Rattle.flow_serve.specs.Posting.{ArePosted, Posts, WasBoard}

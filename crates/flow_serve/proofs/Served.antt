@@ -8,7 +8,7 @@ use Rattle.flow_base.specs.declared.code.Code.TheVariants as code
 use Rattle.flow_base.specs.declared.command.Command.{Command}
 use Rattle.flow_model.specs.Book.{Book}
 use Rattle.flow_model.specs.Apply.{after}
-use Rattle.flow_machine.specs.declared.submission.Taken.{Taken}
+use Rattle.flow_base.specs.declared.submission.Taken.{Taken}
 use Rattle.flow_queues.specs.declared.refused.Refused.{Refused}
 use Rattle.flow_queues.specs.Refusing.{refused_by}
 use Rattle.flow_tables.specs.Faults.{Since}
@@ -22,7 +22,7 @@ use Rattle.flow_serve.specs.Boarding.{IsStill}
 use Rattle.flow_engine.specs.Driving.{NotesAll, all_halted, has_unknown, kept_of, receipts_in, receipts_told}
 use Rattle.flow_engine.specs.Counting.{IsCounted}
 use Rattle.flow_engine.specs.GivingUp.{AreGivenUp, WasRefused}
-use Rattle.flow_machine.specs.declared.task.Task.{Task}
+use Rattle.flow_base.specs.declared.task.Task.{Task}
 use Rattle.flow_serve.specs.Posting.{HasTurn, HasTurns}
 use Rattle.flow_serve.specs.Serving.{HasAnswered, HasServed, IsBatch, ServesBoarded, TurnsAway, codes_in, codes_told}
 use Rattle.flow_serve.proofs.Posted.{answered_later}

@@ -7,7 +7,7 @@ use Rattle.sqlite_trees.specs.declared.store.Store.{Ghosts}
 use Rattle.sqlite.specs.Held.{Held, state}
 use Rattle.flow_base.specs.declared.code.Code.TheVariants as code
 use Rattle.flow_base.specs.declared.fault.Fault.{Fault}
-use Rattle.flow_machine.specs.declared.submission.Taken.{Taken}
+use Rattle.flow_base.specs.declared.submission.Taken.{Taken}
 use Rattle.flow_view.specs.Codes.{view_fault_code}
 use Rattle.flow_view.specs.declared.fault.ViewFault.{ViewFault}
 use Rattle.flow_view.specs.declared.fault.ViewFault.TheVariants as view_fault

@@ -4,8 +4,8 @@ use mathlib.Core.List.{IsPrefix}
 use Rattle.sqlite_trees.specs.declared.store.Store.{Ghosts}
 use Rattle.flow_base.specs.declared.fault.Fault.{Fault}
 use Rattle.flow_base.specs.declared.fault.Fault.TheVariants as fault
-use Rattle.flow_machine.specs.declared.submission.Receipt.{Receipt}
-use Rattle.flow_machine.specs.declared.task.Task.{Task}
+use Rattle.flow_base.specs.declared.submission.Receipt.{Receipt}
+use Rattle.flow_base.specs.declared.task.Task.{Task}
 use Rattle.flow_model.specs.Apply.{after}
 use Rattle.flow_tables.specs.Owned.{state_of}
 use Rattle.flow_commit.specs.Boards.{Boarded, IsBoardOf, IsOfBoard}

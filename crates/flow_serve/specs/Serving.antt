@@ -6,13 +6,13 @@ use Rattle.flow_base.specs.declared.fault.Fault.{Fault}
 use Rattle.flow_base.specs.declared.fault.Fault.TheVariants as fault
 use Rattle.flow_model.specs.Book.{Book}
 use Rattle.flow_model.specs.Apply.{replies}
-use Rattle.flow_machine.specs.declared.submission.Taken.{Taken}
+use Rattle.flow_base.specs.declared.submission.Taken.{Taken}
 use Rattle.flow_view.specs.Codes.{view_fault_code}
 use Rattle.flow_commit.specs.Keeping.{Keeping, rules, IsFit, IsUp, KeepsBook, kept_book}
 use Rattle.flow_commit.specs.Committing.{HasGoneOn}
 use Rattle.flow_queues.specs.declared.refused.Refused.{Refused}
 use Rattle.flow_queues.specs.Refusing.{refused_by}
-use Rattle.flow_machine.specs.declared.task.Task.{Task}
+use Rattle.flow_base.specs.declared.task.Task.{Task}
 use Rattle.flow_engine.specs.declared.done.Done.{Done}
 use Rattle.flow_engine.specs.declared.done.Done.TheVariants as done
 use Rattle.flow_engine.specs.Driving.{HasDone, IsNoted, AreAnswers, NotesAll, LeadsTo, all_halted, gathered, has_unknown, kept_of, in_hand, receipts_in, receipts_told, replies_of}

@@ -1,7 +1,7 @@
 //! The thread that keeps: it takes what was submitted to a hub, commits it and answers it.
 ghost use Rattle.std.specs.Prelude.{◌≡◌, ◌≤◌, true, false, [], List, IfErr, OnOk, MatchResult};
 ghost use Rattle.std.specs.Vec.{vec_capacity};
-ghost use Rattle.flow_machine.specs.declared.submission.Taken.{Taken as ATaken};
+ghost use Rattle.flow_base.specs.declared.submission.Taken.{Taken as ATaken};
 ghost use Rattle.flow_commit.specs.Keeping.{account_of};
 ghost use Rattle.flow_hub.specs.Knowing.{IsBefore};
 ghost use Rattle.flow_serve.specs.Boarding.{IsStill};
@@ -12,28 +12,30 @@ ghost use Rattle.flow_serve.specs.Serving.{EndsFor, GivesUp, HasAnswered, HasSer
 
 use flow_base::code::Code;
 use flow_base::fault::Fault;
+use flow_base::submission::Taken;
 use flow_commit::batch::Batch;
 use flow_commit::outcome::Outcome;
 use flow_engine::engine::Engine;
 use flow_hub::publisher::Publisher;
 use flow_hub::seats::Room;
-use flow_machine::submission::Taken;
 use flow_timers::Clock;
+use flow_timers::pause::Pause;
 use sqlite::Alter;
 use std::alloc::Global;
 use std::sync::Wait;
-use std::thread;
+use std::time;
 
-/// An empty list with room for so many. It is asked for again until it is there.
-fn list_with_room<R: Wait>(rt: &R, alloc: Global, most: usize) -> Vec<Taken>
+/// An empty list with room for so many. It is asked for again until it is there, each time after a longer pause.
+fn list_with_room<R: Wait + time::Clock>(rt: &R, alloc: Global, most: usize) -> Vec<Taken>
     ensures none { result.items ≡ [] }
     ensures room { most ≤ vec_capacity result }
 {
+    let mut pause = Pause::new();
     for _ in rt.forever() {
         if let Ok(list) = Vec::with_capacity(alloc, most) {
             return list;
         }
-        thread::yield_now();
+        pause.wait(rt);
     }
     unreachable!()
 }
@@ -134,7 +136,7 @@ fn post_board<S: Alter, B: Room, R: Wait, C: Clock>(
 
 /// Answers what is submitted until the hub is closed and nothing waits, or a batch halts the engine. A board is posted first and
 /// behind each batch. The first list is given.
-fn serve_all<S: Alter, B: Room, R: Wait, C: Clock>(
+fn serve_all<S: Alter, B: Room, R: Wait + time::Clock, C: Clock>(
     rt: &R,
     engine: &mut Engine<S>,
     publisher: &mut Publisher<B>,
@@ -178,7 +180,7 @@ fn serve_all<S: Alter, B: Room, R: Wait, C: Clock>(
 }
 
 /// Takes nothing more in, and answers all that waits that the engine has halted: E85. There is no board any more, for this fault.
-fn turn_away<B: Room, R: Wait>(
+fn turn_away<B: Room, R: Wait + time::Clock>(
     rt: &R,
     alloc: Global,
     publisher: &mut Publisher<B>,
@@ -221,7 +223,7 @@ fn turn_away<B: Room, R: Wait>(
 /// # Failure
 /// E01 before anything is taken: the hub is closed, and all that waits is answered E85. Room for later lists is asked for
 /// until it is there. E84, and E85 where the engine had halted before.
-pub fn serve<S: Alter, B: Room, R: Wait, C: Clock>(
+pub fn serve<S: Alter, B: Room, R: Wait + time::Clock, C: Clock>(
     engine: &mut Engine<S>,
     rt: &R,
     publisher: &mut Publisher<B>,

@@ -2,7 +2,7 @@
 use crate::acts::{Act, are_so};
 use crate::calls::{Call, Calls};
 use crate::keepers::{Keeping, Shown};
-use flow_machine::task::Posted;
+use flow_base::task::Posted;
 use std::alloc::Global;
 use std::test::Fail;
 

@@ -1,12 +1,12 @@
 //! Calls on a store as plain rows, what is told of them, and the commands that they stand for.
-use flow_base::command::{Command, Reply};
+use flow_base::command::{Command, Complete, Reply, Start};
 use flow_base::event::{Cmd, Event, State, What};
 use flow_base::number::{EventId, Moment, RunId, TextNo};
 use flow_base::sequence::Sequence;
+use flow_base::submission::Receipt;
 use flow_base::text::{Key, RawText};
 use flow_base::value::Value;
-use flow_machine::answer::Stop;
-use flow_machine::submission::Receipt;
+use flow_model::answer::Stop;
 use std::alloc::Global;
 
 const A: &str =
@@ -103,7 +103,13 @@ fn start(
     let request = Key::new(alloc, request).ok()?;
     let flow = Key::new(alloc, flow).ok()?;
     let arguments = arguments(alloc, number)?;
-    Some(Command::Start(request, flow, text, arguments, at))
+    Some(Command::Start(Start {
+        request,
+        flow,
+        text,
+        arguments,
+        at,
+    }))
 }
 
 /// A run of the text A, under a flow of this name, which waits on its activity.
@@ -115,7 +121,13 @@ fn complete(run: u64) -> Option<Command> {
     let run = RunId::new(run)?;
     let event = EventId::new(2)?;
     let at = Moment::new(1500)?;
-    Some(Command::Complete(run, event, 1, Value::Int(41), at))
+    Some(Command::Complete(Complete {
+        run,
+        event,
+        attempt: 1,
+        value: Value::Int(41),
+        at,
+    }))
 }
 
 fn register_empty(alloc: Global) -> Option<Command> {

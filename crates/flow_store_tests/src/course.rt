@@ -6,7 +6,7 @@ use crate::rule::command_at;
 use flow_base::code::Code;
 use flow_base::command::{Command, Reply};
 use flow_engine::engine::Engine;
-use flow_machine::answer::{Stop, Together};
+use flow_model::answer::{Stop, Together};
 use flow_settings::settings::Settings;
 use sqlite::{Alter, Connection};
 use sqlite_disk::digest_of;

@@ -11,7 +11,7 @@ use flow_engine::engine::Engine;
 use flow_lines::batch::BatchSize;
 use flow_lines::drive::drive_lines;
 use flow_lines::streams::{Reading, Writing};
-use flow_machine::answer::{Answer, Stop};
+use flow_model::answer::{Answer, Stop};
 use flow_settings::settings::Settings;
 use sqlite::{Alter, Connection};
 use std::alloc::Global;

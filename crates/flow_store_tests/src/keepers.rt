@@ -5,13 +5,13 @@ ghost use Rattle.flow_tables.specs.Owned.{state_of, IsFit, Keeps};
 
 use crate::calls::{Call, Calls, Told, Want, add_receipts, command, is_as};
 use flow_base::number::Moment;
+use flow_base::submission::{Receipt, Taken};
+use flow_base::task::{Posted, Task};
 use flow_check::language::Language;
 use flow_commit::batch::Batch;
 use flow_commit::board::Board;
 use flow_commit::keeper::Keeper;
 use flow_commit::outcome::Outcome;
-use flow_machine::submission::{Receipt, Taken};
-use flow_machine::task::{Posted, Task};
 use flow_rows::book::WholeBook;
 use flow_tables::tables::Tables;
 use flow_view::fault::ViewFault;

@@ -2,7 +2,7 @@
 use crate::acts::{Act, are_so, are_so_failing};
 use crate::calls::{Call, Named, Told, Want};
 use crate::engines::Asking;
-use flow_machine::answer::Stop;
+use flow_model::answer::Stop;
 use std::test::Fail;
 
 // examples/payment.jsonl

@@ -1,6 +1,6 @@
 //! Commands by a fixed rule: a number in, a command out. Ten of them are a round, which starts a run, has it reported, signalled and
 //! looked at, and lets time pass. Rounds differ in what comes to their runs, so some are ended early and some wait in vain.
-use flow_base::command::Command;
+use flow_base::command::{Command, Complete, Fail, Start};
 use flow_base::number::{EventId, Moment, RunId, TextNo};
 use flow_base::sequence::Sequence;
 use flow_base::text::{Key, RawText, Text};
@@ -31,7 +31,13 @@ fn start(alloc: Global, round: u64, at: Moment) -> Option<Command> {
     let request = name(alloc, round)?;
     let flow = name(alloc, round)?;
     let arguments = Sequence::from_vec(vec![in alloc; Value::Int(7)].ok()?);
-    Some(Command::Start(request, flow, text, arguments, at))
+    Some(Command::Start(Start {
+        request,
+        flow,
+        text,
+        arguments,
+        at,
+    }))
 }
 
 fn signal(alloc: Global, round: u64, name_of_signal: &str, at: Moment) -> Option<Command> {
@@ -42,12 +48,23 @@ fn signal(alloc: Global, round: u64, name_of_signal: &str, at: Moment) -> Option
 }
 
 fn fail(alloc: Global, run: RunId, at: Moment) -> Option<Command> {
-    let event = EventId::new(2)?;
-    Some(Command::Fail(run, event, 1, Text::new(alloc, "no").ok()?, at))
+    Some(Command::Fail(Fail {
+        run,
+        event: EventId::new(2)?,
+        attempt: 1,
+        reason: Text::new(alloc, "no").ok()?,
+        at,
+    }))
 }
 
 fn complete(run: RunId, at: Moment) -> Option<Command> {
-    Some(Command::Complete(run, EventId::new(2)?, 2, Value::Int(41), at))
+    Some(Command::Complete(Complete {
+        run,
+        event: EventId::new(2)?,
+        attempt: 2,
+        value: Value::Int(41),
+        at,
+    }))
 }
 
 fn terminate(alloc: Global, run: RunId, at: Moment) -> Option<Command> {

@@ -2,10 +2,10 @@
 use crate::acts::{Act, are_so, are_so_failing};
 use crate::calls::{Call, Named, Told, Want};
 use crate::engines::Asking;
+use flow_base::book::Totals;
 use flow_base::fault::Fault;
 use flow_engine::engine::Engine;
-use flow_machine::answer::Stop;
-use flow_machine::verify::Totals;
+use flow_model::answer::Stop;
 use sqlite::Alter;
 use std::test::Fail;
 

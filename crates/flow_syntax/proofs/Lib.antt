@@ -21,3 +21,4 @@ pub mod FewerParentheses
 pub mod BareWords
 pub mod PrintedAgain
 pub mod Deprecated
+pub mod Operands

@@ -1,7 +1,7 @@
 //! Where an expression stands in the grammar, which decides whether it needs parentheses. A level is the number of a
 //! production: 0 `expr`, 1 `conj`, 2 `neg`, 3 `cmp`, 4 `sum`, 5 `term`, 6 `unary`, 7 `prim`. Each of them reads all that a
 //! later one reads.
-ghost use Rattle.std.specs.Prelude.{◌≡◌};
+ghost use Rattle.std.specs.Prelude.{◌≡◌, ◌≤◌};
 ghost use Rattle.flow_base.specs.Shown.{shown_expr};
 ghost use Rattle.flow_syntax.specs.Print.{level, binary_level, unary_level, left_level, right_level, binary_mark};
 
@@ -30,7 +30,8 @@ fn unary_level(operator: Unary) -> u8
 }
 
 fn binary_level(operator: Binary) -> u8
-    ensures { result ≡ binary_level operator }
+    ensures own { result ≡ binary_level operator }
+    ensures last { result ≤ 5 }
 {
     match operator {
         Binary::Or => 0,
@@ -56,18 +57,12 @@ pub fn left_level(operator: Binary) -> u8
     }
 }
 
-/// What reads the right operand.
+/// What reads the right operand: the production behind the operator's own.
+#[tactic(auto, using(crate::proofs::Operands::next_production))]
 pub fn right_level(operator: Binary) -> u8
     ensures { result ≡ right_level operator }
 {
-    match operator {
-        Binary::Or => 1,
-        Binary::And => 2,
-        Binary::Equal | Binary::Differ | Binary::Less => 4,
-        Binary::AtMost | Binary::Greater | Binary::AtLeast => 4,
-        Binary::Add | Binary::Subtract | Binary::Join => 5,
-        Binary::Multiply | Binary::Divide | Binary::Remain => 6,
-    }
+    binary_level(operator) + 1
 }
 
 /// The mark that an operator is written with.

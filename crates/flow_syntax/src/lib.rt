@@ -16,3 +16,5 @@ mod printer;
 mod program;
 mod readable;
 mod statement;
+
+pub use flow_base::syntax::Program;

@@ -16,8 +16,11 @@ use flow_base::token::{Mark, Token};
 use std::alloc::{AllocError, Global};
 use std::sync::Arc;
 
+/// A statement, and the tokens that follow it.
+type ReadStatement<'a> = Result<(Stmt, &'a [Token]), Stop>;
+
 /// A `let`, behind its keyword, which stands at this place.
-fn let_statement(alloc: Global, at: usize, tokens: &[Token]) -> Result<(Stmt, &[Token]), Stop>
+fn let_statement(alloc: Global, at: usize, tokens: &[Token]) -> ReadStatement<'_>
     ensures ok { IfOk result (λ x. Parsed m.statement statement_tokens statement_of (marked at Mark.Let ∷ lexemes tokens.now)
         (shown_stmt x.0) (lexemes x.1.now)) }
     ensures shorter { IfOk result (λ x. length x.1.now < length tokens.now) }
@@ -31,7 +34,7 @@ fn let_statement(alloc: Global, at: usize, tokens: &[Token]) -> Result<(Stmt, &[
 }
 
 /// A `sleep`, behind its keyword, which stands at this place.
-fn sleep_statement(alloc: Global, at: usize, tokens: &[Token]) -> Result<(Stmt, &[Token]), Stop>
+fn sleep_statement(alloc: Global, at: usize, tokens: &[Token]) -> ReadStatement<'_>
     ensures ok { IfOk result (λ x. Parsed m.statement statement_tokens statement_of (marked at Mark.Sleep ∷ lexemes tokens.now)
         (shown_stmt x.0) (lexemes x.1.now)) }
     ensures shorter { IfOk result (λ x. length x.1.now < length tokens.now) }
@@ -42,8 +45,21 @@ fn sleep_statement(alloc: Global, at: usize, tokens: &[Token]) -> Result<(Stmt, 
     Ok((Stmt::Sleep(at, delay), end))
 }
 
+/// A `deprecate`, behind the name that it begins with, which stands at this place.
+fn deprecate_statement(alloc: Global, at: usize, tokens: &[Token]) -> ReadStatement<'_>
+    requires { BeginsText (lexemes tokens.now) }
+    ensures ok { IfOk result (λ x. Parsed m.statement statement_tokens statement_of (named at deprecate_name ∷ lexemes tokens.now)
+        (shown_stmt x.0) (lexemes x.1.now)) }
+    ensures shorter { IfOk result (λ x. length x.1.now < length tokens.now) }
+    ensures err { IfErr result (λ e. StopsAt m.statement (named at deprecate_name ∷ lexemes tokens.now) e) }
+{
+    let (id_at, id, after_id) = patch_id(alloc, tokens)?;
+    let (_, end) = expect(after_id, Mark::Semicolon)?;
+    Ok((Stmt::Deprecate(at, id_at, id), end))
+}
+
 /// A `return`, behind its keyword, which stands at this place.
-fn return_statement(alloc: Global, at: usize, tokens: &[Token]) -> Result<(Stmt, &[Token]), Stop>
+fn return_statement(alloc: Global, at: usize, tokens: &[Token]) -> ReadStatement<'_>
     ensures ok { IfOk result (λ x. Parsed m.statement statement_tokens statement_of (marked at Mark.Return ∷ lexemes tokens.now)
         (shown_stmt x.0) (lexemes x.1.now)) }
     ensures shorter { IfOk result (λ x. length x.1.now < length tokens.now) }
@@ -55,7 +71,7 @@ fn return_statement(alloc: Global, at: usize, tokens: &[Token]) -> Result<(Stmt,
 }
 
 /// A `fail`, behind its keyword, which stands at this place.
-fn fail_statement(alloc: Global, at: usize, tokens: &[Token]) -> Result<(Stmt, &[Token]), Stop>
+fn fail_statement(alloc: Global, at: usize, tokens: &[Token]) -> ReadStatement<'_>
     ensures ok { IfOk result (λ x. Parsed m.statement statement_tokens statement_of (marked at Mark.Fail ∷ lexemes tokens.now)
         (shown_stmt x.0) (lexemes x.1.now)) }
     ensures shorter { IfOk result (λ x. length x.1.now < length tokens.now) }
@@ -67,7 +83,7 @@ fn fail_statement(alloc: Global, at: usize, tokens: &[Token]) -> Result<(Stmt, &
 }
 
 /// A `continue as new`, behind its first keyword, which stands at this place.
-fn continue_statement(alloc: Global, at: usize, tokens: &[Token]) -> Result<(Stmt, &[Token]), Stop>
+fn continue_statement(alloc: Global, at: usize, tokens: &[Token]) -> ReadStatement<'_>
     ensures ok { IfOk result (λ x. Parsed m.statement statement_tokens statement_of (marked at Mark.Continue ∷ lexemes tokens.now)
         (shown_stmt x.0) (lexemes x.1.now)) }
     ensures shorter { IfOk result (λ x. length x.1.now < length tokens.now) }
@@ -79,19 +95,6 @@ fn continue_statement(alloc: Global, at: usize, tokens: &[Token]) -> Result<(Stm
     let (list, after) = arguments(alloc, after_open)?;
     let (_, end) = expect(after, Mark::Semicolon)?;
     Ok((Stmt::Continue(at, list), end))
-}
-
-/// A `deprecate`, behind the name that it begins with, which stands at this place.
-fn deprecate_statement(alloc: Global, at: usize, tokens: &[Token]) -> Result<(Stmt, &[Token]), Stop>
-    requires { BeginsText (lexemes tokens.now) }
-    ensures ok { IfOk result (λ x. Parsed m.statement statement_tokens statement_of (named at deprecate_name ∷ lexemes tokens.now)
-        (shown_stmt x.0) (lexemes x.1.now)) }
-    ensures shorter { IfOk result (λ x. length x.1.now < length tokens.now) }
-    ensures err { IfErr result (λ e. StopsAt m.statement (named at deprecate_name ∷ lexemes tokens.now) e) }
-{
-    let (id_at, id, after_id) = patch_id(alloc, tokens)?;
-    let (_, end) = expect(after_id, Mark::Semicolon)?;
-    Ok((Stmt::Deprecate(at, id_at, id), end))
 }
 
 /// A `retry`, behind its keyword.
@@ -224,7 +227,7 @@ fn wait_tail(
     signal_at: usize,
     signal: Key,
     tokens: &[Token],
-) -> Result<(Stmt, &[Token]), Stop>
+) -> ReadStatement<'_>
     ensures ok { IfOk result (λ x. Parsed m.wait_tail wait_tail_tokens (wait_of at into signal_at signal) (lexemes tokens.now)
         (shown_stmt x.0) (lexemes x.1.now)) }
     ensures shorter { IfOk result (λ x. length x.1.now < length tokens.now) }
@@ -246,12 +249,7 @@ fn wait_tail(
 
 /// A call into this variable, behind its keyword.
 #[cycle(statement)]
-fn call_statement(
-    alloc: Global,
-    at: usize,
-    into: Key,
-    tokens: &[Token],
-) -> Result<(Stmt, &[Token]), Stop>
+fn call_statement(alloc: Global, at: usize, into: Key, tokens: &[Token]) -> ReadStatement<'_>
     ensures ok { IfOk result (λ x. (call_at : ℕ) → Parsed m.side side_tokens (side_of at into)
         (marked call_at Mark.Call ∷ lexemes tokens.now) (shown_stmt x.0) (lexemes x.1.now)) }
     ensures shorter { IfOk result (λ x. length x.1.now < length tokens.now) }
@@ -267,12 +265,7 @@ fn call_statement(
 
 /// A wait for a signal into this variable, behind its keyword.
 #[cycle(statement)]
-fn wait_statement(
-    alloc: Global,
-    at: usize,
-    into: Key,
-    tokens: &[Token],
-) -> Result<(Stmt, &[Token]), Stop>
+fn wait_statement(alloc: Global, at: usize, into: Key, tokens: &[Token]) -> ReadStatement<'_>
     ensures ok { IfOk result (λ x. (wait_at : ℕ) → Parsed m.side side_tokens (side_of at into)
         (marked wait_at Mark.Wait ∷ lexemes tokens.now) (shown_stmt x.0) (lexemes x.1.now)) }
     ensures shorter { IfOk result (λ x. length x.1.now < length tokens.now) }
@@ -285,12 +278,7 @@ fn wait_statement(
 
 /// What follows `NAME =` in a statement that begins so.
 #[cycle(statement)]
-fn right_side(
-    alloc: Global,
-    at: usize,
-    into: Key,
-    tokens: &[Token],
-) -> Result<(Stmt, &[Token]), Stop>
+fn right_side(alloc: Global, at: usize, into: Key, tokens: &[Token]) -> ReadStatement<'_>
     ensures ok { IfOk result (λ x. Parsed m.side side_tokens (side_of at into) (lexemes tokens.now) (shown_stmt x.0) (lexemes x.1.now)) }
     ensures shorter { IfOk result (λ x. length x.1.now < length tokens.now) }
     ensures err { IfErr result (λ e. StopsAt m.side (lexemes tokens.now) e) }
@@ -308,7 +296,7 @@ fn right_side(
 
 /// A `while`, behind its keyword, which stands at this place.
 #[cycle(statement)]
-fn while_statement(alloc: Global, at: usize, tokens: &[Token]) -> Result<(Stmt, &[Token]), Stop>
+fn while_statement(alloc: Global, at: usize, tokens: &[Token]) -> ReadStatement<'_>
     ensures ok { IfOk result (λ x. Parsed m.statement statement_tokens statement_of (marked at Mark.While ∷ lexemes tokens.now)
         (shown_stmt x.0) (lexemes x.1.now)) }
     ensures shorter { IfOk result (λ x. length x.1.now < length tokens.now) }
@@ -341,7 +329,7 @@ fn branches(alloc: Global, tokens: &[Token]) -> Result<(Vec<Branch>, usize, &[To
 
 /// A `parallel`, behind its keyword, which stands at this place.
 #[cycle(statement)]
-fn parallel_statement(alloc: Global, at: usize, tokens: &[Token]) -> Result<(Stmt, &[Token]), Stop>
+fn parallel_statement(alloc: Global, at: usize, tokens: &[Token]) -> ReadStatement<'_>
     ensures ok { IfOk result (λ x. Parsed m.statement statement_tokens statement_of (marked at Mark.Parallel ∷ lexemes tokens.now)
         (shown_stmt x.0) (lexemes x.1.now)) }
     ensures shorter { IfOk result (λ x. length x.1.now < length tokens.now) }
@@ -355,7 +343,7 @@ fn parallel_statement(alloc: Global, at: usize, tokens: &[Token]) -> Result<(Stm
 
 /// A statement but `if` and `patch`.
 #[cycle(statement)]
-fn statement(alloc: Global, tokens: &[Token]) -> Result<(Stmt, &[Token]), Stop>
+fn statement(alloc: Global, tokens: &[Token]) -> ReadStatement<'_>
     ensures ok { IfOk result (λ x. Parsed m.statement statement_tokens statement_of (lexemes tokens.now) (shown_stmt x.0)
         (lexemes x.1.now)) }
     ensures shorter { IfOk result (λ x. length x.1.now < length tokens.now) }
@@ -398,7 +386,7 @@ fn choice(alloc: Global, tokens: &[Token]) -> Result<(Block, Block, &[Token]), S
 
 /// A statement of a list. `if` and `patch` are read with what follows them, since they may have no `else`.
 #[cycle(statement)]
-fn member(alloc: Global, tokens: &[Token]) -> Result<(Stmt, &[Token]), Stop>
+fn member(alloc: Global, tokens: &[Token]) -> ReadStatement<'_>
     requires { Lacks Mark.BraceClose (lexemes tokens.now) }
     ensures ok { IfOk result (λ x. IsMember (lexemes tokens.now) (shown_stmt x.0) (lexemes x.1.now)) }
     ensures shorter { IfOk result (λ x. length x.1.now < length tokens.now) }

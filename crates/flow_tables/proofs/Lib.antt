@@ -18,5 +18,6 @@ pub mod Misreading
 pub mod Questioned
 pub mod Altering
 pub mod Serving
+pub mod Calls
 pub mod RunsRead
 pub mod Numbered

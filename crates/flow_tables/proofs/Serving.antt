@@ -126,6 +126,10 @@ pub read_behind : {A E : Type 0} (r : Result A E) (middle last : Type 0) (b b' b
 read_behind (Ok v) middle last b b' b'' value one was two = λ sure. let first = one (was sure) in let later = two sure in (later.0 ∙ first, later.1 ∙ ap value first)
 read_behind (Err f) middle last b b' b'' value one was two = tt
 
+pub read_on : {A E : Type 0} (r : Result A E) (middle last : Type 0) (b b' b'' : Book) → (middle → b' ≡ b) → (last → middle) → OnOk r (last → b'' ≡ b') → OnOk r (last → b'' ≡ b)
+read_on (Ok v) middle last b b' b'' one was two = λ sure. two sure ∙ one (was sure)
+read_on (Err f) middle last b b' b'' one was two = tt
+
 pub goes_behind : {A E : Type 0} (r : Result A E) (X Y Y' Z : Type 0) → (X → Y → Y') → OnOk r (X → Y' → Z) → OnOk r (X → Y → Z)
 goes_behind (Ok v) X Y Y' Z one two = λ x y. two x (one x y)
 goes_behind (Err f) X Y Y' Z one two = tt

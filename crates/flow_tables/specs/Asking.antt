@@ -1,11 +1,13 @@
 -- What is asked of the tables in one statement, and what becomes of it.
 use Rattle.std.specs.Prelude.{◌≡◌, ◌⊎◌}
-use Rattle.flow_tables.specs.Names.{Book, Change, Refusal, first as list_first, Tables, Held, state, Row, Executes, HasCleanDisk, State, Survives, Error, Ghosts, Bool, IfErr, List, MatchResult, Option, true, ℕ, Kind, Changes, HasEnded, Holds, IsAtRest, IsRefused, IsStill, tables_in, StoreFault, ViewFault, Err, Ok, Result, IsSome}
+use Rattle.flow_tables.specs.Names.{EventRow, with_event, Book, Change, Refusal, first as list_first, Tables, Held, state, Row, Executes, HasCleanDisk, State, Survives, Error, Ghosts, Bool, IfErr, List, MatchResult, Option, true, ℕ, Kind, Changes, HasEnded, Holds, IsAtRest, IsRefused, IsStill, tables_in, StoreFault, ViewFault, Err, Ok, Result, IsSome}
 use Rattle.sqlite.specs.declared.types.Value.{Value}
 use Rattle.sqlite.specs.Reading.{IsReadError}
 use Rattle.flow_sql.specs.States.{TellsFailure}
 use Rattle.flow_view.specs.declared.fault.ViewFault.TheVariants as view
 use Rattle.flow_sql.specs.Stored.{HasOddText}
+use Rattle.flow_sql.specs.Coming.{IsWelcomeEvent}
+use Rattle.flow_rows.specs.Rows.{IsRowIn, Two}
 use Rattle.flow_tables.specs.declared.fault.StoreFault.TheVariants.{NoMemory, Refused}
 use Rattle.flow_tables.specs.Reads.{IsReadFault}
 use Rattle.flow_tables.specs.Faults.{IsStopped, StopsWith, Because}
@@ -97,3 +99,11 @@ Stops g old new result unfit = HasCleanDisk (state g new) → IfErr result (λ f
 abbrev pub StopsChange : {S A : Type 0} → Ghosts S → Held S → Held S → Result A Refusal → Book → Change → Type 0
 StopsChange g old new result b change =
     HasCleanDisk (state g new) → IfErr result (λ f. Because f (IsStopped g (state g old) (state g new) ⊎ IsUnwelcome b change) (IsUnfit b change))
+
+-- What becomes of the rows of two events that are put one behind the other: they are there, or this was cut short, and where the tables
+-- take both the store alone stops it.
+pub record AreBothPut {S : Type 0} (g : Ghosts S) (first second : EventRow) (old new : Held S) (result : Result (Unit {0}) Refusal) : Type 0 where
+  pub put : IsRowIn Two first → IsRowIn Two second → IsAltered g old new result (λ t. with_event second (with_event first t))
+  pub cause : Holds true (state g old) → IsWelcomeEvent first (tables_in (state g old).now) → IsWelcomeEvent second (with_event first (tables_in (state g old).now))
+      → Stops g old new result ⊥
+  pub quiet : IsRowIn Two first → IsRowIn Two second → IsQuiet g old new

@@ -11,6 +11,7 @@ pub mod Reads
 pub mod Puts
 pub mod Known
 pub mod Owned
+pub mod Calls
 pub mod Asking
 pub mod Asked
 pub mod Low

@@ -1,7 +1,8 @@
 //! Questions to the tables and changes of their rows, each one statement. One that is refused has changed nothing, or the
 //! transaction has ended.
 ghost use Rattle.std.specs.Prelude.{◌≡◌};
-ghost use Rattle.flow_tables.specs.Names.{Row as SqlRow, List, map, Book, Tells as TellsBook, Tables, read_sql, write_sql, state, Executes, HasCleanDisk, Survives, IfErr, CommitsBy, Shown, FailsToQuery, IfOk};
+ghost use Rattle.flow_tables.specs.Names.{Row as SqlRow, List, map, Book, Tells as TellsBook, Tables, read_sql, write_sql, state, Executes};
+ghost use Rattle.flow_tables.specs.Names.{HasCleanDisk, Survives, IfErr, CommitsBy, Shown, FailsToQuery, IfOk};
 ghost use Rattle.sqlite.specs.State.{CommitsShowing};
 ghost use Rattle.flow_tables.specs.Reads.{Tells, IsReadFault};
 ghost use Rattle.flow_tables.specs.Asking.{IsAsked, IsFirst, IsValue, IsRecalled, IsChanged};

@@ -4,7 +4,8 @@ ghost use Rattle.flow_tables.specs.Names.{Row as SqlRow, Kind, column, IfErr, Li
 ghost use Rattle.sqlite.specs.Kind.TheVariants.{Integer, Text};
 ghost use Rattle.sqlite_value.specs.Order.{bytes};
 ghost use Rattle.flow_sql.specs.Stored.{number_said, text_said, text_row_said, run_row_said, event_row_said, timer_row_said, task_row_said};
-ghost use Rattle.flow_sql.specs.Stored.{number_kinds, text_kinds, text_row_kinds, run_row_kinds, event_row_kinds, timer_row_kinds, task_row_kinds};
+ghost use Rattle.flow_sql.specs.Stored.{number_kinds, text_kinds, text_row_kinds, run_row_kinds, event_row_kinds, timer_row_kinds};
+ghost use Rattle.flow_sql.specs.Stored.{task_row_kinds};
 ghost use Rattle.flow_tables.specs.Reads.{IsMisread, AreMisread};
 
 use crate::fault::StoreFault;

@@ -1,10 +1,10 @@
 //! The commands of a race by their numbers, and what is noted of their answers.
 use crate::note::Note;
-use flow_base::command::{Command, Reply};
+use flow_base::command::{Command, Reply, Start};
 use flow_base::number::{Moment, TextNo};
 use flow_base::sequence::Sequence;
+use flow_base::submission::Receipt;
 use flow_base::text::{Key, RawText};
-use flow_machine::submission::Receipt;
 use std::alloc::Global;
 
 fn register(alloc: Global) -> Option<Command> {
@@ -19,7 +19,13 @@ fn start(alloc: Global, number: u64) -> Option<Command> {
     let name = format!(in alloc; "{number}").ok()?;
     let request = Key::new(alloc, name.as_str()).ok()?;
     let flow = Key::new(alloc, name.as_str()).ok()?;
-    Some(Command::Start(request, flow, text, Sequence::new(alloc), at))
+    Some(Command::Start(Start {
+        request,
+        flow,
+        text,
+        arguments: Sequence::new(alloc),
+        at,
+    }))
 }
 
 /// The command of this number: 0 is the text of all starts.
@@ -33,7 +39,7 @@ pub fn command(alloc: Global, number: u64) -> Option<Command> {
 
 fn number_in(command: &Command) -> u64 {
     match command {
-        Command::Start(request, _, _, _, _) => request.as_str().parse::<u64>().unwrap_or(0),
+        Command::Start(asked) => asked.request.as_str().parse::<u64>().unwrap_or(0),
         _ => 0,
     }
 }

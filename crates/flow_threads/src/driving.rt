@@ -3,11 +3,11 @@ use crate::commands::{command, note_of};
 use crate::course::alone;
 use crate::note::{Note, Raced};
 use crate::racing::limited;
+use flow_base::submission::Taken;
 use flow_commit::batch::Batch;
 use flow_engine::done::Done;
 use flow_engine::drive::drive;
 use flow_engine::engine::Engine;
-use flow_machine::submission::Taken;
 use sqlite::Alter;
 use std::alloc::Global;
 

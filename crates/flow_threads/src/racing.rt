@@ -53,7 +53,7 @@ pub fn limited(most: usize) -> usize
 }
 
 /// Serves a hub until it is closed and all is answered: for which number it has ended.
-fn serve_to_end<S: Alter, B: Room, R: Wait>(
+fn serve_to_end<S: Alter, B: Room, R: Wait + time::Clock>(
     rt: &R,
     engine: &mut Engine<S>,
     publisher: &mut Publisher<B>,

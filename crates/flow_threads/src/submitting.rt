@@ -2,11 +2,11 @@
 use crate::commands::{command, note_of, refused_by};
 use crate::note::Note;
 use crate::plan::Plan;
+use flow_base::submission::Receipt;
 use flow_hub::hub::Hub;
 use flow_hub::seats::Room;
 use flow_hub::submitter::Submitter;
 use flow_hub::ticket::{NotDone, Ticket};
-use flow_machine::submission::Receipt;
 use std::alloc::Global;
 use std::collections::VecDeque;
 use std::sync::Wait;

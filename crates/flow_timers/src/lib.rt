@@ -1,6 +1,7 @@
-//! When timers are to fire: a clock, and the command that fires what is due.
+//! When timers are to fire: a clock, and the command that fires what is due. And how long to wait before something is tried once more.
 #![tactic(auto)]
 
+pub mod pause;
 #[cfg(test)]
 mod tests;
 

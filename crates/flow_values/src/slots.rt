@@ -172,7 +172,7 @@ fn write(
     match values {
         Some(list) => write_shared(alloc, list, i, value)?,
         None => {
-            let mut own = Vec::new(alloc);
+            let mut own = Vec::with_capacity(alloc, i.saturating_add(1))?;
             write_in(&mut own, i, value)?;
             *values = Some(Arc::new(alloc, own)?);
         }

@@ -9,8 +9,8 @@ use Rattle.flow_lines.specs.Driving.{answer_status, final_status}
 use Rattle.flow_lines.specs.declared.reply.Line.{Line}
 use Rattle.flow_lines.specs.declared.reply.Line.TheVariants as line
 use Rattle.flow_lines.proofs.Answering.{status-append}
-use Rattle.flow_machine.specs.declared.submission.Taken.{Taken}
-use Rattle.flow_machine.specs.declared.task.Task.{Task}
+use Rattle.flow_base.specs.declared.submission.Taken.{Taken}
+use Rattle.flow_base.specs.declared.task.Task.{Task}
 use Rattle.flow_hub.specs.declared.fed.Fed.{Fed}
 use Rattle.flow_hub.specs.declared.fed.Fed.TheVariants as fed
 use Rattle.flow_hub.specs.declared.known.HubFacts.{HubFacts}

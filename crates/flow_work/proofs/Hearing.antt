@@ -1,8 +1,8 @@
 -- What comes of a command that is submitted and waited for.
 use Rattle.std.proofs.Common.{◌≡◌, refl, ap, sym, ◌∙◌, subst, Option, Some, slice_get}
 use Rattle.flow_base.specs.declared.command.Command.{Command}
-use Rattle.flow_machine.specs.declared.submission.Receipt.{Receipt}
-use Rattle.flow_machine.specs.declared.submission.Taken.{Taken}
+use Rattle.flow_base.specs.declared.submission.Receipt.{Receipt}
+use Rattle.flow_base.specs.declared.submission.Taken.{Taken}
 use Rattle.flow_hub.specs.declared.ticket.NotDone.{NotDone}
 use Rattle.flow_hub.specs.declared.ticket.Ticket.{Ticket}
 use Rattle.flow_hub.specs.declared.ticket.Why.{Why}

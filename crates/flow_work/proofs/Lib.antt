@@ -3,6 +3,7 @@ mod Firing
 mod Hearing
 mod Printing
 mod Questions
+mod Ran
 mod Reading
 mod Resting
 mod Served

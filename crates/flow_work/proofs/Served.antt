@@ -8,10 +8,10 @@ use Rattle.flow_base.specs.declared.fault.Fault.{Fault}
 use Rattle.flow_lines.specs.Commands.{line_command}
 use Rattle.flow_lines.specs.declared.reply.Line.{Line}
 use Rattle.flow_lines.specs.declared.reply.Line.TheVariants as line
-use Rattle.flow_machine.specs.declared.submission.Receipt.{Receipt}
-use Rattle.flow_machine.specs.declared.submission.Taken.{Taken}
-use Rattle.flow_machine.specs.declared.task.Task.{Task}
-use Rattle.flow_machine.specs.Keys.{Key, key_of}
+use Rattle.flow_base.specs.declared.submission.Receipt.{Receipt}
+use Rattle.flow_base.specs.declared.submission.Taken.{Taken}
+use Rattle.flow_base.specs.declared.task.Task.{Task}
+use Rattle.flow_base.specs.Keys.{Key, key_of}
 use Rattle.flow_commit.specs.Keeping.{Keeping, account_of}
 use Rattle.flow_queues.specs.Posting.{IsOnce, has_key}
 use Rattle.flow_queues.proofs.Once.{has_both, off}

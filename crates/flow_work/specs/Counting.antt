@@ -5,7 +5,7 @@ use mathlib.Core.List.{IsPrefix}
 use Rattle.flow_base.specs.declared.command.Command.{Command}
 use Rattle.flow_lines.specs.Driving.{final_status}
 use Rattle.flow_lines.specs.declared.reply.Line.{Line}
-use Rattle.flow_machine.specs.declared.task.Task.{Task}
+use Rattle.flow_base.specs.declared.task.Task.{Task}
 use Rattle.flow_hub.specs.declared.fed.Fed.{Fed}
 use Rattle.flow_hub.specs.declared.fed.Fed.TheVariants as fed
 use Rattle.flow_hub.specs.declared.known.HubFacts.{HubFacts}

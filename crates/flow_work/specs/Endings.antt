@@ -1,13 +1,15 @@
 -- What comes of a submission that has no receipt.
-use Rattle.std.specs.Prelude.{◌≡◌, ◌⊎◌, List, [], Option, Some, None}
+use Rattle.std.specs.Prelude.{◌≡◌, ◌⊎◌, List, [], Option, Some, None, Result, IfOk, IfErr, OnOk}
 use Rattle.sqlite_trees.specs.declared.store.Store.{Ghosts}
 use Rattle.flow_base.specs.declared.code.Code.TheVariants as code
 use Rattle.flow_base.specs.declared.fault.Fault.{Fault}
-use Rattle.flow_machine.specs.declared.submission.Receipt.{Receipt}
-use Rattle.flow_machine.specs.declared.submission.Taken.{Taken}
+use Rattle.flow_base.specs.declared.fault.Fault.TheVariants as fault
+use Rattle.flow_base.specs.declared.submission.Receipt.{Receipt}
+use Rattle.flow_base.specs.declared.submission.Taken.{Taken}
 use Rattle.flow_lines.specs.declared.reply.Line.{Line}
 use Rattle.flow_lines.specs.declared.reply.Line.TheVariants as line
 use Rattle.flow_commit.specs.Keeping.{Keeping}
+use Rattle.flow_engine.specs.Answering.{Follows}
 use Rattle.flow_serve.specs.Serving.{EndsFor, GivesUp, HasServed}
 use Rattle.flow_hub.specs.declared.denied.Denied.{Denied}
 use Rattle.flow_hub.specs.declared.denied.Denied.TheVariants as denied
@@ -58,3 +60,12 @@ pub record EndsServing {S : Type 0} (g : Ghosts S) (old new : Keeping S) (f : Fa
   pub now : List Refused
   pub how : (waiting : List Taken) × EndsFor old new [] now waiting f
   pub served : (waiting : List Taken) × HasServed g old new [] now waiting
+
+-- What came of an engine that ran: it has served to the end, or this fault has ended it; or nothing was served, and all is as before.
+pub record HasRun {S A U : Type 0} (g : Ghosts S) (old new : Keeping S) (r : Result A Fault) (ended : A → Result U Fault) : Type 0 where
+  pub served : IfOk r (λ a. OnOk (ended a) (HasServedAll g old new))
+  pub ends : IfOk r (λ a. IfErr (ended a) (EndsServing g old new))
+  pub goes_on : IfOk r (λ a. OnOk (ended a) (new.halted ≡ old.halted))
+  pub unserved : IfErr r (λ f. (f ≡ fault.NoMemory _) × (new ≡ old))
+  pub found : new.found ≡ old.found
+  pub follows : Follows g old new

@@ -5,10 +5,10 @@ use Rattle.flow_base.specs.declared.command.Command.TheVariants as command
 
 -- the same command, asked at this moment; some have none
 abbrev pub command_at : Command → ℕ → Command
-command_at (command.Start request flow text args was) at = command.Start request flow text args at
+command_at (command.Start s) at = command.Start (record s { at = at })
 command_at (command.Signal request flow name value was) at = command.Signal request flow name value at
-command_at (command.Complete run event attempt value was) at = command.Complete run event attempt value at
-command_at (command.Fail run event attempt reason was) at = command.Fail run event attempt reason at
+command_at (command.Complete c) at = command.Complete (record c { at = at })
+command_at (command.Fail f) at = command.Fail (record f { at = at })
 command_at (command.Tick was) at = command.Tick at
 command_at (command.Terminate run reason was) at = command.Terminate run reason at
 command_at (command.Register src) at = command.Register src

@@ -6,7 +6,7 @@ use Rattle.flow_lines.specs.Driving.{WritesBeginning, answer_status}
 use Rattle.flow_lines.specs.Replies.{line_text}
 use Rattle.flow_lines.specs.Tasks.{task_text}
 use Rattle.flow_lines.specs.declared.reply.Line.{Line}
-use Rattle.flow_machine.specs.declared.task.Task.{Task}
+use Rattle.flow_base.specs.declared.task.Task.{Task}
 use Rattle.flow_work.specs.declared.shown.Shown.{Shown}
 use Rattle.flow_work.specs.declared.shown.Shown.TheVariants as shown
 use Rattle.flow_work.specs.contracts.shown.Shown as shown_row

@@ -6,9 +6,9 @@ use Rattle.flow_base.specs.declared.command.Command.{Command}
 use Rattle.flow_lines.specs.Commands.{line_command}
 use Rattle.flow_lines.specs.declared.reply.Line.{Line}
 use Rattle.flow_lines.specs.declared.reply.Line.TheVariants as line
-use Rattle.flow_machine.specs.declared.submission.Receipt.{Receipt}
-use Rattle.flow_machine.specs.declared.submission.Taken.{Taken}
-use Rattle.flow_machine.specs.declared.task.Task.{Task}
+use Rattle.flow_base.specs.declared.submission.Receipt.{Receipt}
+use Rattle.flow_base.specs.declared.submission.Taken.{Taken}
+use Rattle.flow_base.specs.declared.task.Task.{Task}
 use Rattle.flow_commit.specs.Keeping.{Keeping}
 use Rattle.flow_queues.specs.Posting.{IsOnce}
 use Rattle.flow_queues.specs.declared.refused.Refused.{Refused}

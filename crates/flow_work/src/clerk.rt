@@ -81,7 +81,7 @@ impl<B: Room, W: Write + Drop> Clerk<B, W> {
     }
 
     /// Takes in a line. No where nothing is answered any more.
-    fn take<R: Wait, C: Clock>(&mut self, rt: &R, clock: &C, line: Vec<u8>) -> bool
+    fn take<R: Wait + time::Clock, C: Clock>(&mut self, rt: &R, clock: &C, line: Vec<u8>) -> bool
         requires { length self.old.desk.pending.lines.items < 64 }
         ensures counted { (first : Option (List ℕ)) → Counts line_command
             (C.tells clock.now) first nothing self.old.desk.submitter self.old.desk.pending.lines.items self.old.lines self.old.desk.page
@@ -99,7 +99,7 @@ impl<B: Room, W: Write + Drop> Clerk<B, W> {
     }
 
     /// Prints all replies that are to come.
-    fn end<R: Wait, C: Clock>(&mut self, rt: &R, clock: &C)
+    fn end<R: Wait + time::Clock, C: Clock>(&mut self, rt: &R, clock: &C)
         ensures counted { (first : Option (List ℕ)) → Counts line_command
             (C.tells clock.now) first nothing self.old.desk.submitter self.old.desk.pending.lines.items self.old.lines self.old.desk.page
             → Counted line_command (C.tells clock.now) first nothing self.new.desk.submitter self.new.lines self.new.desk.page }
@@ -112,7 +112,7 @@ impl<B: Room, W: Write + Drop> Clerk<B, W> {
     }
 
     /// As `end`, where the input can't be read any more.
-    fn fail<R: Wait, C: Clock>(&mut self, rt: &R, clock: &C)
+    fn fail<R: Wait + time::Clock, C: Clock>(&mut self, rt: &R, clock: &C)
         ensures counted { (first : Option (List ℕ)) → Counts line_command
             (C.tells clock.now) first nothing self.old.desk.submitter self.old.desk.pending.lines.items self.old.lines self.old.desk.page
             → Counted line_command (C.tells clock.now) first nothing self.new.desk.submitter self.new.lines self.new.desk.page }
@@ -126,7 +126,7 @@ impl<B: Room, W: Write + Drop> Clerk<B, W> {
     }
 
     /// Prints the oldest reply. No where nothing is answered any more.
-    fn tell<R: Wait, C: Clock>(&mut self, rt: &R, clock: &C) -> bool
+    fn tell<R: Wait + time::Clock, C: Clock>(&mut self, rt: &R, clock: &C) -> bool
         ensures counted { (first : Option (List ℕ)) → Counts line_command
             (C.tells clock.now) first nothing self.old.desk.submitter self.old.desk.pending.lines.items self.old.lines self.old.desk.page
             → Goes line_command (C.tells clock.now) first result nothing self.new.desk.submitter self.new.desk.pending.lines.items self.new.lines self.new.desk.page }
@@ -140,7 +140,12 @@ impl<B: Room, W: Write + Drop> Clerk<B, W> {
 
     /// Does what is to be done of what was read. No where it is no line and all is printed, or nothing is answered any more.
     #[tactic(auto, using(crate::proofs::Counting::goes_over, crate::proofs::Counting::counted))]
-    fn deal<R: Wait, C: Clock>(&mut self, rt: &R, clock: &C, input: InputMessage) -> bool
+    fn deal<R: Wait + time::Clock, C: Clock>(
+        &mut self,
+        rt: &R,
+        clock: &C,
+        input: InputMessage,
+    ) -> bool
         requires { length self.old.desk.pending.lines.items < 64 }
         ensures counted { (first : Option (List ℕ)) → Counts line_command
             (C.tells clock.now) first nothing self.old.desk.submitter self.old.desk.pending.lines.items self.old.lines self.old.desk.page
@@ -167,7 +172,12 @@ impl<B: Room, W: Write + Drop> Clerk<B, W> {
 
     /// Takes in what is read next, or prints the oldest reply. No where what was read is no line and all is printed, or nothing is
     /// answered any more.
-    fn step<R: Wait, C: Clock, G: Giving>(&mut self, rt: &R, clock: &C, inputs: &mut G) -> bool
+    fn step<R: Wait + time::Clock, C: Clock, G: Giving>(
+        &mut self,
+        rt: &R,
+        clock: &C,
+        inputs: &mut G,
+    ) -> bool
         ensures counted { (first : Option (List ℕ)) → Counts line_command
             (C.tells clock.now) first nothing self.old.desk.submitter self.old.desk.pending.lines.items self.old.lines self.old.desk.page
             → Goes line_command (C.tells clock.now) first result nothing self.new.desk.submitter self.new.desk.pending.lines.items self.new.lines self.new.desk.page }
@@ -186,7 +196,12 @@ impl<B: Room, W: Write + Drop> Clerk<B, W> {
     /// Submits the lines that are read, each at the moment that the clock tells then, and prints their replies, until the input has
     /// ended and all is printed, or nothing is answered any more. A line is submitted again after E90; a command that was answered E80
     /// or E01 is told as not applied.
-    fn answer_lines<R: Wait, C: Clock, G: Giving>(&mut self, rt: &R, clock: &C, inputs: &mut G)
+    fn answer_lines<R: Wait + time::Clock, C: Clock, G: Giving>(
+        &mut self,
+        rt: &R,
+        clock: &C,
+        inputs: &mut G,
+    )
         ensures counted { (first : Option (List ℕ)) → Counts line_command
             (C.tells clock.now) first nothing self.old.desk.submitter self.old.desk.pending.lines.items self.old.lines self.old.desk.page
             → Counted line_command (C.tells clock.now) first nothing self.new.desk.submitter self.new.lines self.new.desk.page }

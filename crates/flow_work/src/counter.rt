@@ -18,6 +18,7 @@ use flow_timers::Clock;
 use std::io::Write;
 use std::snapshot::Snapshot;
 use std::sync::Wait;
+use std::time;
 use unseen::Listed;
 
 /// Whether more may come.
@@ -79,7 +80,7 @@ impl<B: Room, W: Write + Drop> Counter<B, W> {
     }
 
     /// Takes in a line. No where nothing is answered any more.
-    fn take<R: Wait, C: Clock>(&mut self, rt: &R, clock: &C, line: Vec<u8>) -> bool
+    fn take<R: Wait + time::Clock, C: Clock>(&mut self, rt: &R, clock: &C, line: Vec<u8>) -> bool
         requires { length self.old.desk.pending.lines.items < 64 }
         ensures { (first : Option (List ℕ)) → Counts line_served
             (C.tells clock.now) first self.old.feed self.old.desk.submitter self.old.desk.pending.lines.items self.old.lines self.old.desk.page
@@ -93,7 +94,7 @@ impl<B: Room, W: Write + Drop> Counter<B, W> {
     }
 
     /// Prints the task that is given out next, or sleeps until there is something else to be done. No where nothing is any more.
-    fn listen<R: Wait, C: Clock>(&mut self, rt: &R, _clock: &C) -> bool
+    fn listen<R: Wait + time::Clock, C: Clock>(&mut self, rt: &R, _clock: &C) -> bool
         ensures { (first : Option (List ℕ)) → Counts line_served
             (C.tells _clock.now) first self.old.feed self.old.desk.submitter self.old.desk.pending.lines.items self.old.lines self.old.desk.page
             → Goes line_served (C.tells _clock.now) first result self.new.feed self.new.desk.submitter self.new.desk.pending.lines.items self.new.lines self.new.desk.page }
@@ -104,7 +105,7 @@ impl<B: Room, W: Write + Drop> Counter<B, W> {
     }
 
     /// Prints one more of the tasks that are ready once all that was submitted is answered. No where there is none.
-    fn print_last<R: Wait, C: Clock>(&mut self, rt: &R, _clock: &C) -> bool
+    fn print_last<R: Wait + time::Clock, C: Clock>(&mut self, rt: &R, _clock: &C) -> bool
         ensures { (first : Option (List ℕ)) → Counted line_served
             (C.tells _clock.now) first self.old.feed self.old.desk.submitter self.old.lines self.old.desk.page
             → Counted line_served (C.tells _clock.now) first self.new.feed self.new.desk.submitter self.new.lines self.new.desk.page }
@@ -115,7 +116,7 @@ impl<B: Room, W: Write + Drop> Counter<B, W> {
     }
 
     /// Prints all of these.
-    fn print_all<R: Wait, C: Clock>(&mut self, rt: &R, clock: &C)
+    fn print_all<R: Wait + time::Clock, C: Clock>(&mut self, rt: &R, clock: &C)
         ensures { (first : Option (List ℕ)) → Counted line_served
             (C.tells clock.now) first self.old.feed self.old.desk.submitter self.old.lines self.old.desk.page
             → Counted line_served (C.tells clock.now) first self.new.feed self.new.desk.submitter self.new.lines self.new.desk.page }
@@ -129,7 +130,7 @@ impl<B: Room, W: Write + Drop> Counter<B, W> {
     }
 
     /// Prints all replies that are to come, and then the tasks that are ready.
-    fn end<R: Wait, C: Clock>(&mut self, rt: &R, clock: &C)
+    fn end<R: Wait + time::Clock, C: Clock>(&mut self, rt: &R, clock: &C)
         ensures { (first : Option (List ℕ)) → Counts line_served
             (C.tells clock.now) first self.old.feed self.old.desk.submitter self.old.desk.pending.lines.items self.old.lines self.old.desk.page
             → Counted line_served (C.tells clock.now) first self.new.feed self.new.desk.submitter self.new.lines self.new.desk.page }
@@ -139,7 +140,7 @@ impl<B: Room, W: Write + Drop> Counter<B, W> {
     }
 
     /// As `end`, where the input can't be read any more.
-    fn fail<R: Wait, C: Clock>(&mut self, rt: &R, clock: &C)
+    fn fail<R: Wait + time::Clock, C: Clock>(&mut self, rt: &R, clock: &C)
         ensures { (first : Option (List ℕ)) → Counts line_served
             (C.tells clock.now) first self.old.feed self.old.desk.submitter self.old.desk.pending.lines.items self.old.lines self.old.desk.page
             → Counted line_served (C.tells clock.now) first self.new.feed self.new.desk.submitter self.new.lines self.new.desk.page }
@@ -149,7 +150,7 @@ impl<B: Room, W: Write + Drop> Counter<B, W> {
     }
 
     /// Prints the oldest reply; where nothing is to be answered, a task, or sleeps until there is something. No where it is over.
-    fn tell<R: Wait, C: Clock>(&mut self, rt: &R, clock: &C) -> bool
+    fn tell<R: Wait + time::Clock, C: Clock>(&mut self, rt: &R, clock: &C) -> bool
         ensures { (first : Option (List ℕ)) → Counts line_served
             (C.tells clock.now) first self.old.feed self.old.desk.submitter self.old.desk.pending.lines.items self.old.lines self.old.desk.page
             → Goes line_served (C.tells clock.now) first result self.new.feed self.new.desk.submitter self.new.desk.pending.lines.items self.new.lines self.new.desk.page }
@@ -163,7 +164,7 @@ impl<B: Room, W: Write + Drop> Counter<B, W> {
     /// Takes in the line that is there; else tells of what it has. So a worker that writes its report before it reads on is never
     /// waited for by one who waits for it: a task is printed only where no report waits. No where it is over.
     #[tactic(auto, using(crate::proofs::Counting::goes_over, crate::proofs::Counting::counted))]
-    fn step<R: Wait, C: Clock>(
+    fn step<R: Wait + time::Clock, C: Clock>(
         &mut self,
         rt: &R,
         clock: &C,
@@ -190,7 +191,7 @@ impl<B: Room, W: Write + Drop> Counter<B, W> {
 
     /// Submits the lines that are read, each at the moment that the clock tells then, and prints their replies in the order of the
     /// lines, and tasks in between, until the input has ended and all is printed, or nothing is answered any more.
-    pub(crate) fn serve_lines<R: Wait, C: Clock>(
+    pub(crate) fn serve_lines<R: Wait + time::Clock, C: Clock>(
         &mut self,
         rt: &R,
         clock: &C,

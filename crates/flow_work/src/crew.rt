@@ -31,7 +31,7 @@ use std::thread::{JoinHandle, Promise, PromisedHandle, Threads};
 use std::{thread, time};
 
 /// Makes attempts until no task comes any more, or nothing is answered.
-fn run_worker<B: Room, R: Wait, A: Activity + Drop, C: Clock, P: Write + Drop>(
+fn run_worker<B: Room, R: Wait + time::Clock, A: Activity + Drop, C: Clock, P: Write + Drop>(
     rt: &R,
     alloc: Global,
     activities: Vec<A>,
@@ -130,7 +130,7 @@ pub(crate) fn start_worker<B, R, A, C, P>(
 ) -> Result<(), Fault>
 where
     B: Room + Send + Sync + 'static,
-    R: Threads + Wait + Copy + Send + Drop + 'static,
+    R: Threads + Wait + time::Clock + Copy + Send + Drop + 'static,
     A: Activity + Drop + Send + 'static,
     C: Clock + Copy + Send + Drop + 'static,
     P: Write + Drop + Send + 'static,

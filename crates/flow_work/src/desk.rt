@@ -133,7 +133,7 @@ impl<B: Room, W: Write + Drop> Desk<B, W> {
     }
 
     /// Prints what was given out, if it is a task.
-    pub(crate) fn print_fed<R: Wait>(&mut self, rt: &R, fed: &Fed)
+    pub(crate) fn print_fed<R: Wait + time::Clock>(&mut self, rt: &R, fed: &Fed)
         ensures printed { PrintsFed fed.now self.old.page self.new.page }
         ensures pending { self.new.pending ≡ self.old.pending }
         ensures submitter { self.new.submitter ≡ self.old.submitter }
@@ -145,7 +145,7 @@ impl<B: Room, W: Write + Drop> Desk<B, W> {
     }
 
     /// Prints an answer. No where there is none.
-    fn print_answer<R: Wait>(&mut self, rt: &R, answer: Option<Line>) -> bool
+    fn print_answer<R: Wait + time::Clock>(&mut self, rt: &R, answer: Option<Line>) -> bool
         ensures printed { PrintsAnswer answer self.old.page self.new.page }
         ensures goes_on { result ≡ is_some answer }
         ensures pending { self.new.pending ≡ self.old.pending }
@@ -162,7 +162,7 @@ impl<B: Room, W: Write + Drop> Desk<B, W> {
 
     /// Waits for the answer of the oldest line and prints it. No where nothing is answered any more.
     #[tactic(auto, using(flow_hub::proofs::Growing::before_self))]
-    pub(crate) fn tell_oldest<R: Wait>(&mut self, rt: &R) -> bool
+    pub(crate) fn tell_oldest<R: Wait + time::Clock>(&mut self, rt: &R) -> bool
         ensures oldest { (told : Option ALine) × AnswersFirst self.new.submitter self.old.pending.lines.items self.new.pending.lines.items told result
             × PrintsAnswer told self.old.page self.new.page }
         ensures told { HasTold self.new.submitter result self.old.pending.lines.items self.new.pending.lines.items self.old.page self.new.page }
@@ -179,7 +179,7 @@ impl<B: Room, W: Write + Drop> Desk<B, W> {
 
     /// Submits a command until it is taken in. None where nothing is answered any more.
     #[tactic(auto, using(crate::proofs::Telling::told_none, crate::proofs::Telling::told_then, crate::proofs::Telling::told_later, crate::proofs::Telling::told_ends, flow_hub::proofs::Growing::before_trans))]
-    fn submit<R: Wait>(&mut self, rt: &R, command: Command) -> Option<Ticket>
+    fn submit<R: Wait + time::Clock>(&mut self, rt: &R, command: Command) -> Option<Ticket>
         ensures ticket { IfSome result (λ t. IsOf self.new.submitter command t) }
         ensures silent { IfNone result (IsSilent self.new.submitter self.old.pending.lines.items) }
         ensures told { HasTold self.new.submitter
@@ -204,7 +204,7 @@ impl<B: Room, W: Write + Drop> Desk<B, W> {
     }
 
     /// What becomes of a line. None where nothing is answered any more.
-    fn pending_of<R: Wait, C: Clock>(
+    fn pending_of<R: Wait + time::Clock, C: Clock>(
         &mut self,
         rt: &R,
         clock: &C,
@@ -232,7 +232,7 @@ impl<B: Room, W: Write + Drop> Desk<B, W> {
     }
 
     /// Takes in a line. No where nothing is answered any more.
-    pub(crate) fn take_line<R: Wait, C: Clock>(
+    pub(crate) fn take_line<R: Wait + time::Clock, C: Clock>(
         &mut self,
         rt: &R,
         clock: &C,
@@ -300,7 +300,7 @@ impl<B: Room, W: Write + Drop> Desk<B, W> {
     }
 
     /// Prints all replies that are to come.
-    pub(crate) fn tell_all<R: Wait>(&mut self, rt: &R)
+    pub(crate) fn tell_all<R: Wait + time::Clock>(&mut self, rt: &R)
         ensures ends { (self.new.pending.lines.items ≡ []) ⊎ IsSilent self.new.submitter self.old.pending.lines.items }
         ensures told { HasTold self.new.submitter false self.old.pending.lines.items self.new.pending.lines.items self.old.page self.new.page }
         ensures grows { IsBefore self.old.submitter.was self.new.submitter.was }

@@ -28,3 +28,4 @@ pub mod tasks;
 pub mod teller;
 pub mod timer;
 pub mod unknown;
+pub mod workers;

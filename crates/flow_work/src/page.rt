@@ -4,17 +4,18 @@ ghost use Rattle.flow_work.specs.Printing.{PrintsLine, PrintsTask, Writes, blank
 
 use crate::shown::Shown;
 use crate::status::Status;
+use flow_base::task::Task;
 use flow_lines::output::Unwritten;
 use flow_lines::reply::Line;
 use flow_lines::streams::write_line;
 use flow_lines::task::write_task;
-use flow_machine::task::Task;
+use flow_timers::pause::Pause;
 use std::alloc::Global;
 use std::io::Write;
 use std::marker::Model;
 use std::snapshot::Snapshot;
 use std::sync::Wait;
-use std::thread;
+use std::time;
 use unseen::{Listed, Makes};
 
 struct Nothing;
@@ -59,16 +60,23 @@ fn with_task(shown: &Listed<Shown>, task: Snapshot<Task>) -> Listed<Shown>
     Listed::of::<(Listed<Shown>, Snapshot<Task>), OneTask>(&more)
 }
 
-/// Writes what is told of a line. Where memory runs out, nothing is written, and it is tried again. No where a write failed.
+/// Writes what is told of a line. Where memory runs out, nothing is written, and it is tried again after a longer pause each time. No
+/// where a write failed.
 #[tactic(auto, using(crate::proofs::Printing::kept_self, crate::proofs::Printing::kept_more, crate::proofs::Printing::written_later, crate::proofs::Printing::begun_later))]
-fn has_written_line<R: Wait, W: Write>(rt: &R, alloc: Global, writer: &mut W, line: &Line) -> bool
+fn has_written_line<R: Wait + time::Clock, W: Write>(
+    rt: &R,
+    alloc: Global,
+    writer: &mut W,
+    line: &Line,
+) -> bool
     ensures { Writes result (W.contents writer.old) (W.contents writer.new) (shown_line (Shown.Reply line.now)) }
 {
+    let mut pause = Pause::new();
     'tries: for _ in rt.forever() {
         match write_line(alloc, writer, line) {
             Ok(()) => return true,
             Err(Unwritten::Failed) => return false,
-            Err(Unwritten::NoMemory(_no_memory)) => thread::yield_now(),
+            Err(Unwritten::NoMemory(_no_memory)) => pause.wait(rt),
         }
     }
     unreachable!()
@@ -76,14 +84,20 @@ fn has_written_line<R: Wait, W: Write>(rt: &R, alloc: Global, writer: &mut W, li
 
 /// Writes the line of a task, as the other is written.
 #[tactic(auto, using(crate::proofs::Printing::kept_self, crate::proofs::Printing::kept_more, crate::proofs::Printing::written_later, crate::proofs::Printing::begun_later))]
-fn has_written_task<R: Wait, W: Write>(rt: &R, alloc: Global, writer: &mut W, task: &Task) -> bool
+fn has_written_task<R: Wait + time::Clock, W: Write>(
+    rt: &R,
+    alloc: Global,
+    writer: &mut W,
+    task: &Task,
+) -> bool
     ensures { Writes result (W.contents writer.old) (W.contents writer.new) (shown_line (Shown.Task task.now)) }
 {
+    let mut pause = Pause::new();
     'tries: for _ in rt.forever() {
         match write_task(alloc, writer, task) {
             Ok(()) => return true,
             Err(Unwritten::Failed) => return false,
-            Err(Unwritten::NoMemory(_no_memory)) => thread::yield_now(),
+            Err(Unwritten::NoMemory(_no_memory)) => pause.wait(rt),
         }
     }
     unreachable!()
@@ -154,7 +168,7 @@ impl<W: Write + Drop> Page<W> {
     }
 
     /// Prints what is told of a line, unless a write has failed before.
-    pub(crate) fn print_line<R: Wait>(&mut self, rt: &R, line: &Line)
+    pub(crate) fn print_line<R: Wait + time::Clock>(&mut self, rt: &R, line: &Line)
         ensures { PrintsLine line.now self.old self.new }
     {
         self.status = self.status.or(Status::of_line(line));
@@ -171,7 +185,7 @@ impl<W: Write + Drop> Page<W> {
     }
 
     /// Prints the line of a task, unless a write has failed before.
-    pub(crate) fn print_task<R: Wait>(&mut self, rt: &R, task: &Task)
+    pub(crate) fn print_task<R: Wait + time::Clock>(&mut self, rt: &R, task: &Task)
         ensures { PrintsTask task.now self.old self.new }
     {
         if self.is_mute {

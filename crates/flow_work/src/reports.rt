@@ -17,6 +17,7 @@ use flow_hub::submitter::Submitter;
 use flow_hub::ticket::{NotDone, Why};
 use flow_pool::report::{Reports, Unheard};
 use flow_timers::Clock;
+use flow_timers::pause::Pause;
 use std::snapshot::Snapshot;
 use std::sync::Wait;
 use std::time;
@@ -184,10 +185,15 @@ impl<B: Room> Reporter<B> {
         heard
     }
 
-    /// Sleeps until something is due by the clock, tells the tick that fires it, and waits for its answer. No where nothing is answered
-    /// any more.
+    /// Sleeps until something is due by the clock, tells the tick that fires it, and waits for its answer. If that is no reply it
+    /// sleeps for the pause too, since the tick is due again at once. No where nothing is answered any more.
     #[tactic(auto, using(crate::proofs::Firing::fires_nothing, flow_hub::proofs::Growing::before_trans))]
-    pub(crate) fn fire<R: Wait + time::Clock, C: Clock>(&mut self, rt: &R, clock: &C) -> bool
+    pub(crate) fn fire<R: Wait + time::Clock, C: Clock>(
+        &mut self,
+        rt: &R,
+        clock: &C,
+        pause: &mut Pause,
+    ) -> bool
         ensures fires { FiresOne (C.tells clock.now) self.new.submitter.was self.old.told self.new.told result }
         ensures grows { IsBefore self.old.submitter.was self.new.submitter.was }
     {
@@ -196,10 +202,12 @@ impl<B: Room> Reporter<B> {
         };
         let heard = self.report(rt, tick);
         let ends = is_last(&heard);
+        let replied = heard.is_ok();
         drop(heard);
         if ends {
             return false;
         }
+        pause.wait_unless(rt, replied);
         true
     }
 }

@@ -1,41 +1,34 @@
 //! A running engine: the threads around the one that serves.
-ghost use Rattle.std.specs.Prelude.{◌≡◌, ◌≤◌, [], length, IfOk, IfErr, OnOk};
+ghost use Rattle.std.specs.Prelude.{◌≡◌, ◌≤◌, [], IfOk, IfErr, OnOk};
 ghost use Rattle.flow_hub.specs.Knowing.{IsBefore, IsSamePart, nothing};
 ghost use Rattle.flow_hub.specs.Seating.{IsRoomOf};
-ghost use Rattle.flow_hub.specs.Publishing.{Together};
 ghost use Rattle.flow_engine.specs.Answering.{Follows};
-ghost use Rattle.flow_work.specs.Endings.{EndsServing, HasServedAll};
+ghost use Rattle.flow_work.specs.Endings.{EndsServing, HasRun, HasServedAll};
 ghost use Rattle.flow_work.specs.Printing.{blank};
 ghost use Rattle.flow_work.specs.Serving.{PrintsReplies, ServedBy};
 
 use crate::clerk::Answered;
-use crate::crew::{
-    Answerer, OwedReplies, start_desk, start_dispatcher, start_reader, start_timer, start_worker,
-};
+use crate::crew::{Answerer, OwedReplies, start_desk, start_reader, start_timer};
 use crate::desk::Desk;
 use crate::ended::Ended;
 use crate::input::InputMessage;
 use crate::progress::Progress;
 use crate::queue::Queue;
-use crate::reports::Reporter;
 use crate::skills::Skills;
 use crate::tally::Tally;
 use crate::tasks::Tasks;
 use crate::unknown::{Strangers, UnknownActivity};
+use crate::workers::{reporter, start_pool, unseated_fault};
 use crossbeam_channel::{Receiver, Sender, bounded};
 use crossbeam_utils::sync::WaitGroup;
 use flow_base::fault::Fault;
-use flow_base::memory::NoMemory;
 use flow_engine::engine::Engine;
-use flow_hub::denied::Unseated;
 use flow_hub::feed::Feed;
 use flow_hub::hub::Hub;
 use flow_hub::publisher::Publisher;
 use flow_hub::seats::{Opened, Room};
 use flow_hub::submitter::Submitter;
 use flow_pool::activity::Activity;
-use flow_pool::channel::opened;
-use flow_pool::ends::{TaskReceiver, TaskSender};
 use flow_serve::serve;
 use flow_settings::settings::Settings;
 use flow_timers::Clock;
@@ -47,154 +40,8 @@ use std::sync::{Arc, Wait};
 use std::thread::{JoinHandle, PromisedHandle, Threads};
 use std::time;
 
-/// How many tasks may wait for a worker.
-const MOST_TASKS: usize = 64;
-
 /// How many lines may be read ahead.
 const MOST_LINES: usize = 64;
-
-/// The channel of tasks with an end for each worker.
-fn open_channel(
-    alloc: Global,
-    workers: usize,
-) -> Result<(TaskSender, Vec<TaskReceiver>), AllocError>
-    ensures { IfOk result (λ r. length r.1.items ≡ workers) }
-{
-    let (mut sender, door) = opened(alloc, MOST_TASKS)?;
-    let mut receivers = Vec::with_capacity(alloc, workers)?;
-    'ends: for made in 0..workers {
-        receivers.push(sender.worker(&door)?)?;
-    }
-    Ok((sender, receivers))
-}
-
-/// Who gives tasks out, of a hub that was just made.
-pub(crate) fn feed_of<B: Room, R: Wait>(rt: &R, hub: &Hub<B>) -> Result<Feed<B>, Fault>
-    ensures none { IfOk result (λ f. f ≡ nothing) }
-    ensures refused { IfErr result (λ f. f ≡ Fault.NoMemory _) }
-{
-    // Nobody has asked this hub for its feed before.
-    match hub.feed(rt)? {
-        Some(feed) => Ok(feed),
-        None => Err(Fault::NoMemory(NoMemory::told())),
-    }
-}
-
-/// Why nobody is seated at a hub. A hub that was just made has numbers left for its few submitters, so memory is what is wanting.
-fn unseated_fault(unseated: Unseated) -> Fault
-    ensures { result ≡ Fault.NoMemory _ }
-{
-    match unseated {
-        Unseated::NoMemory(no_memory) => Fault::NoMemory(no_memory),
-        Unseated::InboxFull => Fault::NoMemory(NoMemory::told()),
-    }
-}
-
-/// One who reports to a hub. E01 where there's no memory for it.
-pub(crate) fn reporter<B: Room, R: Wait>(
-    rt: &R,
-    hub: &Hub<B>,
-    tally: Option<Tally>,
-) -> Result<Reporter<B>, Fault>
-    ensures { IfErr result (λ f. f ≡ Fault.NoMemory _) }
-{
-    match hub.submitter(rt) {
-        Ok(submitter) => Ok(Reporter::new(submitter, tally)),
-        Err(unseated) => Err(unseated_fault(unseated)),
-    }
-}
-
-/// Starts the thread of one worker.
-fn start_one<B, R, A, K, C, P>(
-    rt: &R,
-    alloc: Global,
-    hub: &Hub<B>,
-    receiver: TaskReceiver,
-    skills: &K,
-    clock: C,
-    tally: &Tally,
-    strangers: &Strangers<P>,
-    group: &WaitGroup,
-) -> Result<(), Fault>
-where
-    B: Room + Send + Sync + 'static,
-    R: Threads + Wait + Copy + Send + Drop + 'static,
-    A: Activity + Drop + Send + 'static,
-    K: Skills<A>,
-    C: Clock + Copy + Send + Drop + 'static,
-    P: Write + Drop + Send + 'static,
-    ensures { IfErr result (λ f. f ≡ Fault.NoMemory _) }
-{
-    let group = group.clone()?;
-    let own = tally.share()?;
-    let unknown = strangers.share(own)?;
-    let tally = tally.share()?;
-    let activities = skills.of_worker(alloc)?;
-    let reports = reporter(rt, hub, Some(tally))?;
-    start_worker(
-        rt, alloc, activities, receiver, reports, unknown, clock, group,
-    )
-}
-
-/// Starts a thread for each worker.
-fn start_workers<B, R, A, K, C, P>(
-    rt: &R,
-    alloc: Global,
-    hub: &Hub<B>,
-    receivers: Vec<TaskReceiver>,
-    skills: &K,
-    clock: C,
-    tally: &Tally,
-    strangers: &Strangers<P>,
-    group: &WaitGroup,
-) -> Result<(), Fault>
-where
-    B: Room + Send + Sync + 'static,
-    R: Threads + Wait + Copy + Send + Drop + 'static,
-    A: Activity + Drop + Send + 'static,
-    K: Skills<A>,
-    C: Clock + Copy + Send + Drop + 'static,
-    P: Write + Drop + Send + 'static,
-    ensures { IfErr result (λ f. f ≡ Fault.NoMemory _) }
-{
-    for receiver in receivers {
-        start_one(
-            rt, alloc, hub, receiver, skills, clock, tally, strangers, group,
-        )?;
-    }
-    Ok(())
-}
-
-/// Starts those who make attempts of the tasks that are posted, and who hands the tasks to them and gives back where they came from.
-fn start_pool<B, R, A, K, C, P>(
-    rt: &R,
-    alloc: Global,
-    hub: &Hub<B>,
-    workers: usize,
-    skills: &K,
-    clock: C,
-    tally: &Tally,
-    strangers: &Strangers<P>,
-    group: &WaitGroup,
-) -> Result<JoinHandle<Tasks<B>>, Fault>
-where
-    B: Room + Send + Sync + 'static,
-    R: Threads + Wait + Copy + Send + Drop + 'static,
-    A: Activity + Drop + Send + 'static,
-    K: Skills<A>,
-    C: Clock + Copy + Send + Drop + 'static,
-    P: Write + Drop + Send + 'static,
-    ensures { IfErr result (λ f. f ≡ Fault.NoMemory _) }
-{
-    let (sender, receivers) = open_channel(alloc, workers)?;
-    start_workers(
-        rt, alloc, hub, receivers, skills, clock, tally, strangers, group,
-    )?;
-    let group = group.clone()?;
-    let tally = tally.share()?;
-    let feed = feed_of(rt, hub)?;
-    start_dispatcher(rt, Tasks::new(feed, tally), sender, group)
-}
 
 /// What those who read and answer lines have beside where the lines come from and where the replies go.
 pub(crate) struct Opening<B: Room> {
@@ -464,12 +311,7 @@ where
     requires { engine.old.log ≡ [] }
     // What was taken was committed batch by batch, each over the book that those before it left, and nothing else changes the book: so it
     // says what is kept and what a stop leaves, also where a fault ended it. Where nothing was served all is as before.
-    ensures served { IfOk result (λ e. OnOk e.served (HasServedAll S.Store engine.old engine.new)) }
-    ensures ends { IfOk result (λ e. IfErr e.served (EndsServing S.Store engine.old engine.new)) }
-    ensures goes_on { IfOk result (λ e. OnOk e.served (engine.new.halted ≡ engine.old.halted)) }
-    ensures unserved { IfErr result (λ f. (f ≡ Fault.NoMemory _) × (engine.new ≡ engine.old)) }
-    ensures found { engine.new.found ≡ engine.old.found }
-    ensures follows { Follows S.Store engine.old engine.new }
+    ensures ran { HasRun S.Store engine.old engine.new result (λ e. e.served) }
     // What was printed: replies to the lines that were taken in, in their order, by what was kept and what wasn't; and their status.
     ensures printed { IfOk result (λ e. PrintsReplies S.Store (C.tells clock) engine.old engine.new (W.contents writer)
         (W.contents e.writer) e.status) }
@@ -512,12 +354,7 @@ where
     C: Clock + Copy + Send + Drop + 'static,
     P: Write + Drop + Send + 'static,
     requires { engine.old.log ≡ [] }
-    ensures served { IfOk result (λ e. OnOk e.served (HasServedAll S.Store engine.old engine.new)) }
-    ensures ends { IfOk result (λ e. IfErr e.served (EndsServing S.Store engine.old engine.new)) }
-    ensures goes_on { IfOk result (λ e. OnOk e.served (engine.new.halted ≡ engine.old.halted)) }
-    ensures unserved { IfErr result (λ f. (f ≡ Fault.NoMemory _) × (engine.new ≡ engine.old)) }
-    ensures found { engine.new.found ≡ engine.old.found }
-    ensures follows { Follows S.Store engine.old engine.new }
+    ensures ran { HasRun S.Store engine.old engine.new result (λ e. e.served) }
     ensures printed { IfOk result (λ e. PrintsReplies S.Store (C.tells clock) engine.old engine.new (W.contents writer)
         (W.contents e.writer) e.status) }
 {
@@ -548,7 +385,7 @@ pub(crate) fn open_hub<B: Room>(alloc: Global, opened: Opened) -> Result<Parts<B
 }
 
 /// Serves a hub that was just made, until it is closed and nothing waits, or the engine serves no more.
-pub(crate) fn serve_new<S: Alter, B: Room, R: Wait, C: Clock>(
+pub(crate) fn serve_new<S: Alter, B: Room, R: Wait + time::Clock, C: Clock>(
     rt: &R,
     engine: &mut Engine<S>,
     publisher: &mut Publisher<B>,
@@ -597,12 +434,7 @@ where
     P: Write + Drop + Send + 'static,
     requires room { IsRoomOf opened B.table B.name B.parts }
     requires fresh { engine.old.log ≡ [] }
-    ensures served { IfOk result (λ e. OnOk e.served (HasServedAll S.Store engine.old engine.new)) }
-    ensures ends { IfOk result (λ e. IfErr e.served (EndsServing S.Store engine.old engine.new)) }
-    ensures goes_on { IfOk result (λ e. OnOk e.served (engine.new.halted ≡ engine.old.halted)) }
-    ensures unserved { IfErr result (λ f. (f ≡ Fault.NoMemory _) × (engine.new ≡ engine.old)) }
-    ensures found { engine.new.found ≡ engine.old.found }
-    ensures follows { Follows S.Store engine.old engine.new }
+    ensures ran { HasRun S.Store engine.old engine.new result (λ e. e.served) }
     ensures printed { IfOk result (λ e. PrintsReplies S.Store (C.tells clock) engine.old engine.new (W.contents writer)
         (W.contents e.writer) e.status) }
 {

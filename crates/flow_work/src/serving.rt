@@ -1,10 +1,9 @@
 //! A running engine whose activities are outside: tasks are lines that it prints, and their reports lines that it reads.
-ghost use Rattle.std.specs.Prelude.{◌≡◌, ◌≤◌, [], IfOk, IfErr, OnOk};
+ghost use Rattle.std.specs.Prelude.{◌≡◌, [], IfOk, IfErr};
 ghost use Rattle.flow_hub.specs.Knowing.{IsBefore, IsSamePart, nothing};
 ghost use Rattle.flow_hub.specs.Seating.{IsRoomOf};
-ghost use Rattle.flow_engine.specs.Answering.{Follows};
 ghost use Rattle.flow_work.specs.Counting.{IsStatusOf};
-ghost use Rattle.flow_work.specs.Endings.{EndsServing, HasServedAll};
+ghost use Rattle.flow_work.specs.Endings.{HasRun};
 ghost use Rattle.flow_work.specs.Printing.{blank};
 ghost use Rattle.flow_work.specs.Serving.{Shows};
 
@@ -13,8 +12,9 @@ use crate::crew::start_ringing;
 use crate::desk::Desk;
 use crate::ended::{Ended, Served};
 use crate::input::InputMessage;
-use crate::running::{Opening, begin, feed_of, open_hub, open_lines, serve_new, start_timing};
+use crate::running::{Opening, begin, open_hub, open_lines, serve_new, start_timing};
 use crate::teller::{Owed, Teller, start_teller};
+use crate::workers::feed_of;
 use crossbeam_channel::Sender;
 use crossbeam_utils::sync::WaitGroup;
 use flow_base::fault::Fault;
@@ -88,7 +88,7 @@ fn start_lines<B, R, I, W, C>(
 ) -> Result<Telling<B, W, C>, Fault>
 where
     B: Room + Send + Sync + 'static,
-    R: Threads + Wait + Copy + Send + Drop + 'static,
+    R: Threads + Wait + time::Clock + Copy + Send + Drop + 'static,
     I: BufRead + Drop + Send + 'static,
     W: Write + Drop + Send + 'static,
     C: Clock + Copy + Send + Drop + 'static,
@@ -207,12 +207,7 @@ where
     C: Clock + Copy + Send + Drop + 'static,
     requires { engine.old.log ≡ [] }
     // What is said of `work`.
-    ensures served { IfOk result (λ e. OnOk e.ended.served (HasServedAll S.Store engine.old engine.new)) }
-    ensures ends { IfOk result (λ e. IfErr e.ended.served (EndsServing S.Store engine.old engine.new)) }
-    ensures goes_on { IfOk result (λ e. OnOk e.ended.served (engine.new.halted ≡ engine.old.halted)) }
-    ensures unserved { IfErr result (λ f. (f ≡ Fault.NoMemory _) × (engine.new ≡ engine.old)) }
-    ensures found { engine.new.found ≡ engine.old.found }
-    ensures follows { Follows S.Store engine.old engine.new }
+    ensures ran { HasRun S.Store engine.old engine.new result (λ e. e.ended.served) }
     // What was printed: to the lines that were taken in, in their order, what is said of them by what was kept and what wasn't; and in
     // between the tasks that were posted.
     ensures shown { IfOk result (λ e. Shows S.Store (C.tells clock) engine.old engine.new (W.contents writer)
@@ -246,12 +241,7 @@ where
     C: Clock + Copy + Send + Drop + 'static,
     requires room { IsRoomOf opened B.table B.name B.parts }
     requires fresh { engine.old.log ≡ [] }
-    ensures served { IfOk result (λ e. OnOk e.ended.served (HasServedAll S.Store engine.old engine.new)) }
-    ensures ends { IfOk result (λ e. IfErr e.ended.served (EndsServing S.Store engine.old engine.new)) }
-    ensures goes_on { IfOk result (λ e. OnOk e.ended.served (engine.new.halted ≡ engine.old.halted)) }
-    ensures unserved { IfErr result (λ f. (f ≡ Fault.NoMemory _) × (engine.new ≡ engine.old)) }
-    ensures found { engine.new.found ≡ engine.old.found }
-    ensures follows { Follows S.Store engine.old engine.new }
+    ensures ran { HasRun S.Store engine.old engine.new result (λ e. e.ended.served) }
     ensures shown { IfOk result (λ e. Shows S.Store (C.tells clock) engine.old engine.new (W.contents writer)
         (W.contents e.ended.writer) e.is_mute e.lines e.shown) }
     ensures status { IfOk result (λ e. IsStatusOf e.is_mute e.shown e.ended.status) }

@@ -1,6 +1,6 @@
 //! What is printed.
+use flow_base::task::Task;
 use flow_lines::reply::Line;
-use flow_machine::task::Task;
 
 /// A line that was printed.
 #[derive(Debug, Drop)]

@@ -2,9 +2,9 @@
 ghost use Rattle.std.specs.Prelude.{◌≡◌};
 
 use crate::tally::Tally;
+use flow_base::task::Task;
 use flow_hub::feed::Feed;
 use flow_hub::seats::Room;
-use flow_machine::task::Task;
 use flow_pool::dispatcher::TaskSource;
 use std::sync::Wait;
 

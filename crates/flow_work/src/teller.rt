@@ -16,8 +16,8 @@ use std::alloc::{AllocError, Global};
 use std::io::Write;
 use std::snapshot::Snapshot;
 use std::sync::{Arc, Wait};
-use std::thread;
 use std::thread::{Promise, PromisedHandle, Threads};
+use std::{thread, time};
 
 /// All that the thread has that answers lines and prints tasks.
 #[derive(Drop)]
@@ -45,7 +45,7 @@ impl<B: Room, W: Write, C: Clock> Promise<Told<B, W>> for Owed<B, W, C> {
 }
 
 /// Answers lines and prints tasks until the input has ended, and then closes the hub.
-fn run_teller<B: Room, W: Write + Drop, R: Wait, C: Clock>(
+fn run_teller<B: Room, W: Write + Drop, R: Wait + time::Clock, C: Clock>(
     rt: &R,
     teller: Teller<B, W>,
     clock: &C,
@@ -72,7 +72,7 @@ pub(crate) fn start_teller<B, R, W, C>(
 ) -> Result<PromisedHandle<Told<B, W>, Owed<B, W, C>>, Fault>
 where
     B: Room + Send + Sync + 'static,
-    R: Threads + Wait + Copy + Send + Drop + 'static,
+    R: Threads + Wait + time::Clock + Copy + Send + Drop + 'static,
     W: Write + Drop + Send + 'static,
     C: Clock + Copy + Send + Drop + 'static,
     ensures owed { IfOk result (λ h. (h.promise.desk.value ≡ teller.desk) × (h.promise.feed.value ≡ teller.feed)

@@ -5,7 +5,7 @@ use crate::clock::Still;
 use flow_base::command::{Command, Reply};
 use flow_base::number::RunId;
 use flow_engine::engine::Engine;
-use flow_machine::answer::{Answer, Answering};
+use flow_model::answer::{Answer, Answering};
 use flow_pool::activity::Activity;
 use flow_settings::settings::Settings;
 use flow_work::ended::Ended;

@@ -3,17 +3,18 @@ ghost use Rattle.std.specs.Prelude.{◌≡◌, []};
 
 use crate::clock::Still;
 use flow_base::command::{Command, Reply};
+use flow_base::submission::Receipt;
 use flow_engine::engine::Engine;
 use flow_hub::publisher::Publisher;
 use flow_hub::seats::Room;
 use flow_hub::submitter::Submitter;
 use flow_hub::ticket::Ticket;
-use flow_machine::submission::Receipt;
 use flow_serve::serve;
 use flow_settings::settings::Settings;
 use sqlite::Connection;
 use std::alloc::Global;
 use std::sync::Wait;
+use std::time;
 
 /// What is told of a command: the place of its receipt, and the number that its reply names; or zeros.
 #[derive(Clone, Copy, PartialEq, Eq)]
@@ -54,7 +55,7 @@ pub fn fetched<B: Room, R: Wait>(rt: &R, submitter: &mut Submitter<B>, ticket: T
 }
 
 /// Opens an engine over memory, and serves what was submitted. Whether it ended with all answered.
-pub fn serve_over_memory<B: Room, R: Wait>(
+pub fn serve_over_memory<B: Room, R: Wait + time::Clock>(
     rt: &R,
     alloc: Global,
     publisher: &mut Publisher<B>,

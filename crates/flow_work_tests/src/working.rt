@@ -5,9 +5,10 @@ ghost use Rattle.flow_hub.specs.Seating.{IsRoomOf};
 
 use crate::clock::Still;
 use crate::serving::{Told, fetched, serve_over_memory, submitted};
-use flow_base::command::Command;
+use flow_base::command::{Command, Complete, Start};
 use flow_base::number::{Moment, TextNo};
 use flow_base::sequence::Sequence;
+use flow_base::task::Task;
 use flow_base::text::{Key, RawText};
 use flow_base::value::Value;
 use flow_hub::feed::Feed;
@@ -15,7 +16,6 @@ use flow_hub::hub::Hub;
 use flow_hub::publisher::Publisher;
 use flow_hub::seats::{Opened, Room};
 use flow_hub::submitter::Submitter;
-use flow_machine::task::Task;
 use std::alloc::Global;
 use std::marker::Brand;
 use std::sync::Wait;
@@ -44,12 +44,24 @@ fn start(alloc: Global) -> Option<Command> {
     let at = Moment::new(1000)?;
     let request = Key::new(alloc, "q").ok()?;
     let flow = Key::new(alloc, "f").ok()?;
-    Some(Command::Start(request, flow, text, Sequence::new(alloc), at))
+    Some(Command::Start(Start {
+        request,
+        flow,
+        text,
+        arguments: Sequence::new(alloc),
+        at,
+    }))
 }
 
 fn report(task: &Task) -> Option<Command> {
     let at = Moment::new(1200)?;
-    Some(Command::Complete(task.run, task.event, task.attempt, Value::Int(41), at))
+    Some(Command::Complete(Complete {
+        run: task.run,
+        event: task.event,
+        attempt: task.attempt,
+        value: Value::Int(41),
+        at,
+    }))
 }
 
 /// Submits a command and waits for its receipt.

@@ -24,8 +24,8 @@ not_handed_out u n base a other = (first n base, (rw other refl, refl))
 
 -- a report on an attempt that was handed out is submitted as a command
 reports : (u : Rules) (n : ℕ) (base : Book) (a : Attempt) (v : Value) (at : ℕ)
-    → Comes u (handed_out n base a) (Report 0 v at ∷ []) (record (handed_out n base a) { inbox = command.Complete a.run a.event a.attempt v at ∷ [] })
-reports u n base a v at = (record (handed_out n base a) { inbox = command.Complete a.run a.event a.attempt v at ∷ [] }, (refl, refl))
+    → Comes u (handed_out n base a) (Report 0 v at ∷ []) (record (handed_out n base a) { inbox = command.Complete (record { run = a.run; event = a.event; attempt = a.attempt; value = v; at = at }) ∷ [] })
+reports u n base a v at = (record (handed_out n base a) { inbox = command.Complete (record { run = a.run; event = a.event; attempt = a.attempt; value = v; at = at }) ∷ [] }, (refl, refl))
 
 -- and nothing on one that wasn't
 reports_nothing : (u : Rules) (n : ℕ) (base : Book) (a : Attempt) (v : Value) (at : ℕ) → Comes u (handed_out n base a) (Report 1 v at ∷ []) (handed_out n base a)
@@ -33,8 +33,8 @@ reports_nothing u n base a v at = (handed_out n base a, (refl, refl))
 
 -- an attempt that failed is told in the same way
 tells_failure : (u : Rules) (n : ℕ) (base : Book) (a : Attempt) (reason : Bytes) (at : ℕ)
-    → Comes u (handed_out n base a) (Failure 0 reason at ∷ []) (record (handed_out n base a) { inbox = command.Fail a.run a.event a.attempt reason at ∷ [] })
-tells_failure u n base a reason at = (record (handed_out n base a) { inbox = command.Fail a.run a.event a.attempt reason at ∷ [] }, (refl, refl))
+    → Comes u (handed_out n base a) (Failure 0 reason at ∷ []) (record (handed_out n base a) { inbox = command.Fail (record { run = a.run; event = a.event; attempt = a.attempt; reason = reason; at = at }) ∷ [] })
+tells_failure u n base a reason at = (record (handed_out n base a) { inbox = command.Fail (record { run = a.run; event = a.event; attempt = a.attempt; reason = reason; at = at }) ∷ [] }, (refl, refl))
 
 tells_nothing : (u : Rules) (n : ℕ) (base : Book) (a : Attempt) (reason : Bytes) (at : ℕ) → Comes u (handed_out n base a) (Failure 1 reason at ∷ []) (handed_out n base a)
 tells_nothing u n base a reason at = (handed_out n base a, (refl, refl))

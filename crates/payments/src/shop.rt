@@ -1,7 +1,7 @@
 //! What the shop does outside of its workflows.
+use flow_base::task::Task;
 use flow_base::text::Text;
 use flow_base::value::{Value, ValueFault};
-use flow_machine::task::Task;
 use flow_pool::activity::{Activity, Attempt};
 use flow_work::skills::Skills;
 use std::alloc::{AllocError, Global};

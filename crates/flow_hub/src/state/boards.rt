@@ -15,8 +15,8 @@ use crate::known::BoardSummary;
 use crate::rested::Rested;
 use crate::seats::{HubTable, Pass, Room};
 use flow_base::number::Moment;
+use flow_base::task::Task;
 use flow_commit::board::Board;
-use flow_machine::task::Task;
 use flow_queues::posting::{Keys, add_all, push_marked};
 use std::alloc::{AllocError, Global};
 

@@ -9,11 +9,16 @@ returns-in-Ok-clause-runs g c =
     let old = c.args.engine.now in
     let new = c.serve.new.engine in
     record {
-      served = ended_well ended.served ended.status c.outcome.result (HasServedAll g.S.Store old new) c.in-Ok.ensures.served c.outcome.ensures.fault c.outcome.ensures.done;
-      ends = either c.outcome.result (EndsServing g.S.Store old new) _ (λ f h. inl h) (ended_by ended.served ended.status c.outcome.result (EndsServing g.S.Store old new) c.in-Ok.ensures.ends c.outcome.ensures.served c.outcome.ensures.fault);
-      found = c.serve.ensures.found;
-      follows = c.serve.ensures.follows;
+      served = ended_well ended.served ended.status c.outcome.result (HasServedAll g.S.Store old new) c.in-Ok.ensures.ran.served c.outcome.ensures.fault c.outcome.ensures.done;
+      ends = either c.outcome.result (EndsServing g.S.Store old new) _ (λ f h. inl h) (ended_by ended.served ended.status c.outcome.result (EndsServing g.S.Store old new) c.in-Ok.ensures.ran.ends c.outcome.ensures.served c.outcome.ensures.fault);
+      found = c.serve.ensures.ran.found;
+      follows = c.serve.ensures.ran.follows;
     }
+
+pub returns-in-Err-clause-runs : goal.returns-in-Err-clause-runs
+returns-in-Err-clause-runs g c =
+    let ran = c.in-Err.ensures.ran in
+    record { served = tt; ends = inr (inl ran.unserved.0, ran.unserved.1); found = ran.found; follows = ran.follows }
 
 pub returns-in-Ok-clause-prints : goal.returns-in-Ok-clause-prints
 returns-in-Ok-clause-prints g c = inl (record {
@@ -25,4 +30,4 @@ returns-in-Ok-clause-prints g c = inl (record {
 })
 
 pub returns-in-Err-clause-prints : goal.returns-in-Err-clause-prints
-returns-in-Err-clause-prints g c = inr (c.in-Err.fault, (refl, (inl c.in-Err.ensures.unserved.0, c.in-Err.ensures.unserved.1)))
+returns-in-Err-clause-prints g c = inr (c.in-Err.fault, (refl, (inl c.in-Err.ensures.ran.unserved.0, c.in-Err.ensures.ran.unserved.1)))

@@ -1,5 +1,6 @@
 use Rattle.std.proofs.Common.{inl, inr, rules, subst, string_bytes}
-use Rattle.flow.specs.Telling.{tells_settlement, Tells}
+use Rattle.flow_cli.specs.Telling.{Tells}
+use Rattle.flow.specs.Telling.{tells_settlement}
 use Rattle.flow.proofs.texts.settle.Goals as goal
 
 pub returns-in_err-new : goal.returns-in_err-new
@@ -7,14 +8,7 @@ returns-in_err-new g c = inl (record { text = c.in_ok-old.old; read = c.in_ok-ol
 
 pub returns : goal.returns
 returns g c =
-    let told = subst (λ t. Tells g.O.Output g.P.Output (tells_settlement t c.as_str-2.result.now) c.args.output.now c.tell_settlement.new.output c.args.errors.now c.tell_settlement.new.errors c.tell_settlement.result) c.as_str.ensures.value (record {
-      written = c.tell_settlement.ensures.told;
-      status = c.tell_settlement.ensures.status;
-      marked = c.tell_settlement.ensures.marked;
-      stopped = c.tell_settlement.ensures.stopped;
-      unmarked = c.tell_settlement.ensures.unmarked;
-      output = c.tell_settlement.ensures.output;
-    }) in
+    let told = subst (λ t. Tells g.O.Output g.P.Output (tells_settlement t c.as_str-2.result.now) c.args.output.now c.tell_settlement.new.output c.args.errors.now c.tell_settlement.new.errors c.tell_settlement.result) c.as_str.ensures.value c.tell_settlement.ensures.tells in
     inl (record {
       text = c.in_ok-old.old;
       read = c.in_ok-old.ensures.read;

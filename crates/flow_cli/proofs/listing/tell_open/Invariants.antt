@@ -1,6 +1,6 @@
 -- The pages before this one were written, and the book is as it was.
 use Rattle.std.proofs.Common.{◌≡◌}
-use Rattle.flow_machine.specs.Answers.{StopsSince}
+use Rattle.flow_model.specs.Answers.{StopsSince}
 use Rattle.flow_cli.proofs.Listings.{HasListed}
 use Rattle.flow_cli.proofs.listing.tell_open.Given as goal
 

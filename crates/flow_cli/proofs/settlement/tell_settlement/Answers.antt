@@ -1,10 +1,19 @@
-use Rattle.std.proofs.Common.{◌∙◌, ap}
+use Rattle.std.proofs.Common.{◌∙◌, ap, subst}
+use Rattle.std.proofs.lemmas.Result.{IfOk-weaker}
 use Rattle.flow_cli.specs.Settlements.{settlement_status}
+use Rattle.flow_cli.specs.Telling.{settlement_told, Tells}
 use Rattle.flow_cli.proofs.Settlements.{means_settled}
+use Rattle.flow_cli.proofs.Tellings.{same_told}
 use Rattle.flow_cli.proofs.settlement.tell_settlement.Goals as goal
 
-pub returns-in-Ok-clause-settles : goal.returns-in-Ok-clause-settles
-returns-in-Ok-clause-settles g c =
+pub returns-clause-tells : goal.returns-clause-tells
+returns-clause-tells g c =
+    subst (λ t. Tells g.O.Output g.P.Output t c.args.output.now c.tell.new.output c.args.errors.now c.tell.new.errors c.tell.result)
+    (same_told _ _ _ _ _ _ c.in_ok-lines.ensures (c.as_slice.ensures.value ∙ c.in_ok-marks.ensures) c.status.ensures
+    ∙ ap (settlement_told c.args.old.now c.args.new.now) c.in_ok-settlement.ensures.settlement) c.tell.ensures
+
+pub returns-clause-settles : goal.returns-clause-settles
+returns-clause-settles g c =
     let m = g.T.Texts.meaning c.args.old.now in
     let m' = g.T.Texts.meaning c.args.new.now in
-    means_settled m m' c.status.result (c.status.ensures ∙ ap settlement_status c.in_ok-settlement.ensures.settlement)
+    IfOk-weaker c.tell.result _ _ (λ n is. means_settled m m' n (is ∙ (c.status.ensures ∙ ap settlement_status c.in_ok-settlement.ensures.settlement))) c.tell.ensures.status

@@ -1,19 +1,33 @@
+use Rattle.std.proofs.Common.{rules}
+use Rattle.flow_tables.specs.Calls.{as_view}
+use Rattle.flow_tables.proofs.Calls.{looked_by, no_memory_read, not_looked, not_read}
+use Rattle.flow_commit.specs.Boards.{draft_of}
 use Rattle.flow_commit.proofs.survey.survey.Goals as goal
 
-pub returns-in-Ok-tasks_of-clause-follows : goal.returns-in-Ok-tasks_of-clause-follows
-returns-in-Ok-tasks_of-clause-follows g c a before = c.tasks_of.ensures.follows a (c.outlook.ensures.follows a before)
+pub returns-in-Err : goal.returns-in-Err
+returns-in-Err g c =
+    not_read (as_view g.S.Store) c.args.tables.now c.outlook.new.self c.in-Err.fault (draft_of c.args.posted.now.keys c.args.at) (not_looked {B = Unit {0}} (as_view g.S.Store) c.args.tables.now c.outlook.new.self c.in-Err.fault _ c.in-Err.ensures)
 
-pub returns-clause-cause : goal.returns-clause-cause
-returns-clause-cause g c a before fit sure = c.in-Err-tasks_of.ensures.cause a (c.outlook.ensures.follows a before) fit (c.in-Ok.ensures.goes_on (c.tasks_of.ensures.was_true fit) sure)
+pub returns-in-Err-wanted : goal.returns-in-Err-wanted
+returns-in-Err-wanted g c =
+    no_memory_read (as_view g.S.Store) c.args.tables.now c.outlook.new.self (tt {0}) c.from.result (draft_of c.args.posted.now.keys c.args.at) c.from.ensures (looked_by (as_view g.S.Store) c.args.tables.now c.outlook.new.self _ (tt {0}) _ c.in-Ok.ensures)
 
-pub returns-clause-was_true : goal.returns-clause-was_true
-returns-clause-was_true g c fit = c.outlook.ensures.was_true (c.tasks_of.ensures.was_true fit)
+pub returns-in-Ok-tasks_of : goal.returns-in-Ok-tasks_of
+returns-in-Ok-tasks_of g c = record {
+  reads = search rules;
+  cause = λ a before fit sure. tt;
+  goes_on = λ fit sure. c.in-Ok-tasks_of.ensures.goes_on fit (c.in-Ok.ensures.goes_on (c.tasks_of.ensures.was_true fit) sure);
+  sure = λ sure. c.outlook.ensures.sure (c.tasks_of.ensures.sure sure);
+  was_true = λ fit. c.outlook.ensures.was_true (c.tasks_of.ensures.was_true fit);
+  follows = λ a before. c.tasks_of.ensures.follows a (c.outlook.ensures.follows a before);
+}
 
-pub returns-clause-follows : goal.returns-clause-follows
-returns-clause-follows g c a before = c.tasks_of.ensures.follows a (c.outlook.ensures.follows a before)
-
-pub returns-in-Ok-tasks_of-clause-goes_on : goal.returns-in-Ok-tasks_of-clause-goes_on
-returns-in-Ok-tasks_of-clause-goes_on g c fit sure = c.in-Ok-tasks_of.ensures.goes_on fit (c.in-Ok.ensures.goes_on (c.tasks_of.ensures.was_true fit) sure)
-
-pub returns-in-Ok-tasks_of-clause-was_true : goal.returns-in-Ok-tasks_of-clause-was_true
-returns-in-Ok-tasks_of-clause-was_true g c fit = c.outlook.ensures.was_true (c.tasks_of.ensures.was_true fit)
+pub returns : goal.returns
+returns g c = record {
+  reads = tt;
+  cause = λ a before fit sure. c.in-Err-tasks_of.ensures.cause a (c.outlook.ensures.follows a before) fit (c.in-Ok.ensures.goes_on (c.tasks_of.ensures.was_true fit) sure);
+  goes_on = tt;
+  sure = λ sure. c.outlook.ensures.sure (c.tasks_of.ensures.sure sure);
+  was_true = λ fit. c.outlook.ensures.was_true (c.tasks_of.ensures.was_true fit);
+  follows = λ a before. c.tasks_of.ensures.follows a (c.outlook.ensures.follows a before);
+}

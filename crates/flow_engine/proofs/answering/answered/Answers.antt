@@ -1,6 +1,6 @@
 use Rattle.std.proofs.Common.{[], ◌∷◌, refl, sym, ap, inr, subst}
 use Rattle.std.proofs.lemmas.Result.{IfOk-weaker, IfErr-weaker}
-use Rattle.flow_machine.specs.declared.answer.Answer.TheVariants as answer
+use Rattle.flow_model.specs.declared.answer.Answer.TheVariants as answer
 use Rattle.flow_commit.specs.Keeping.{rules, kept_book}
 use Rattle.flow_engine.specs.Driving.{commands_in}
 use Rattle.flow_engine.specs.Answering.{AnswersAll, AreCaused}

@@ -1,6 +1,6 @@
 use Rattle.std.proofs.Common.{◌≡◌, ◌+◌, ◌≤◌, sym, ap, ◌∙◌, subst, arith, vec_len, vec_capacity, ◌++◌, ◌∷◌, []}
 use Rattle.std.specs.Vec.Iter.{into_iter_items, into_iter_len}
-use Rattle.flow_machine.specs.declared.submission.Taken.{Taken}
+use Rattle.flow_base.specs.declared.submission.Taken.{Taken}
 use Rattle.flow_engine.proofs.Filling.{room_more}
 use Rattle.flow_engine.proofs.OneMore.{none_left}
 use Rattle.flow_engine.proofs.Singly.{Cutting, cutting_more, cutting_done}

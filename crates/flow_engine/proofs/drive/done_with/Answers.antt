@@ -1,5 +1,5 @@
 use Rattle.std.proofs.Common.{List, subst}
-use Rattle.flow_machine.specs.declared.submission.Taken.{Taken}
+use Rattle.flow_base.specs.declared.submission.Taken.{Taken}
 use Rattle.flow_commit.specs.Committing.{IsFor, IsRefusedFor}
 use Rattle.flow_commit.specs.declared.outcome.Outcome.TheVariants.{NotApplied}
 use Rattle.flow_engine.proofs.GivingUp.{refused_done}

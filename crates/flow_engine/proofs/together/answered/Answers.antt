@@ -1,5 +1,5 @@
 use Rattle.std.proofs.Common.{◌≡◌, ◌+◌, ◌≤◌, length, arith, vec_len, vec_capacity, Ok, sym, subst}
-use Rattle.flow_machine.specs.declared.answer.Together.TheVariants.{NotApplied}
+use Rattle.flow_model.specs.declared.answer.Together.TheVariants.{NotApplied}
 use Rattle.flow_commit.specs.Keeping.{commands_of}
 use Rattle.flow_engine.specs.Together.{IsTogether, are_kept}
 use Rattle.flow_engine.proofs.AtOnce.{driven_one, few_kept, first_of, none_done, all_together}

@@ -1,7 +1,7 @@
 use Rattle.std.proofs.Common.{◌≡◌, ◌++◌, sym, ap, ◌∙◌, subst, append-nil}
 use Rattle.std.specs.Vec.Iter.{into_iter_items}
 use Rattle.flow_commit.specs.Keeping.{commands_of}
-use Rattle.flow_machine.specs.declared.submission.Taken.{Taken}
+use Rattle.flow_base.specs.declared.submission.Taken.{Taken}
 use Rattle.flow_engine.proofs.Filling.{room_more}
 use Rattle.flow_engine.proofs.AtOnce.{taken_more}
 use Rattle.flow_engine.proofs.OneMore.{none_left}

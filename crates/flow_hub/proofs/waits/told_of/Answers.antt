@@ -1,6 +1,6 @@
 use Rattle.std.proofs.Common.{◌≡◌, ◌%◌, ◌∙◌, ap, All, subst}
 use Rattle.std.proofs.lemmas.List.{take_all}
-use Rattle.flow_machine.specs.declared.submission.Taken.{Taken}
+use Rattle.flow_base.specs.declared.submission.Taken.{Taken}
 use Rattle.flow_hub.specs.Waking.{Wakes}
 use Rattle.flow_hub.proofs.Waking.{wakes_more}
 use Rattle.flow_hub.proofs.waits.told_of.Goals as goal

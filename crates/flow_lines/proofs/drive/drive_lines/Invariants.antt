@@ -1,7 +1,7 @@
 use Rattle.std.proofs.Common.{◌≡◌, IfSome}
 use Rattle.flow_lines.specs.Answering.{Answered, HasFew, IsFull, OfBatch, SomeAnswered, StatusWithin}
 use Rattle.flow_lines.specs.Ends.{Gives}
-use Rattle.flow_machine.specs.Answers.{StopsSince}
+use Rattle.flow_model.specs.Answers.{StopsSince}
 use Rattle.flow_lines.proofs.drive.drive_lines.Given as goal
 
 abbrev pub invariant-loop : goal.invariant-loop

@@ -10,6 +10,6 @@ returns-clause-finds g c = λ sure.
     let asked = c.text.ensures.sure (c.start_text.ensures.called.sure sure) in
     let request = c.in_ok-run.ensures.reads asked in
     let text = c.in_ok-body.ensures.reads (c.start_text.ensures.called.sure sure) in
-    let unknown : requested old c.args.request.now ≡ None = search rules in
-    let there : nth old.texts c.args.text ≡ Some c.in-Some-2.body = search rules in
-    finds_text g.P.Programs.meaning old (book c.text.new.self) (book c.start_text.new.view) c.args.request.now c.args.flow.now c.args.text c.args.arguments.now c.args.at _ c.in_ok-reply.reply c.in_ok-reply.changes.items (text.0 ∙ request.0) unknown there (c.in_ok-reply.ensures.finds sure)
+    let unknown : requested old c.args.asked.now.request ≡ None = search rules in
+    let there : nth old.texts c.args.asked.now.text ≡ Some c.in-Some-2.body = search rules in
+    finds_text g.P.Programs.meaning old (book c.text.new.self) (book c.start_text.new.view) c.args.asked.now _ c.in_ok-reply.reply c.in_ok-reply.changes.items (text.0 ∙ request.0) unknown there (c.in_ok-reply.ensures.finds sure)

@@ -10,4 +10,4 @@ returns-clause-leads g c = λ sure m reads.
     let run = c.in_ok-changes.ensures.run in
     let counted = c.in_ok-run_count.ensures.reads sure in
     let number : c.in_ok-number.number ≡ length old.runs + 1 = c.in_ok-number.ensures.next ∙ ap (λ n. n + 1) counted.1 in
-    begun_leads m old c.args.flow.now (Some c.args.request.now) c.args.text c.args.at c.in_ok-number.number c.args.arguments.now (shown_checked c.args.program.now) run.0 c.in_ok-changes.stance c.led_by.result c.in_ok-changes.changes.items reads run.1.1.1 run.1.1.0 number c.led_by.ensures
+    begun_leads m old c.args.asked.now.flow (Some c.args.asked.now.request) c.args.asked.now.text c.args.asked.now.at c.in_ok-number.number c.args.asked.now.arguments (shown_checked c.args.program.now) run.0 c.in_ok-changes.stance c.led_by.result c.in_ok-changes.changes.items reads run.1.1.1 run.1.1.0 number c.led_by.ensures

@@ -1,6 +1,6 @@
 use Rattle.std.proofs.Common.{◌≡◌, ℕ, List, is_some}
 use Rattle.flow_pool.specs.Reports.{MayCome, first_named}
-use Rattle.flow_machine.specs.declared.task.Task.{Task}
+use Rattle.flow_base.specs.declared.task.Task.{Task}
 use Rattle.flow_pool.specs.declared.activity.Attempt.{Attempt}
 use Rattle.flow_pool.proofs.attempts.attempt.Given as goal
 

@@ -1,6 +1,6 @@
 use Rattle.std.proofs.Common.{◌≡◌, ◌++◌, List}
 use Rattle.flow_pool.specs.Ends.{put_by, made_by, back_at, came_back, IsSameFeed}
-use Rattle.flow_machine.specs.declared.task.Task.{Task}
+use Rattle.flow_base.specs.declared.task.Task.{Task}
 use Rattle.flow_pool.proofs.dispatcher.dispatcher.Given as goal
 
 abbrev pub invariant-tasks : goal.invariant-tasks

@@ -1,5 +1,5 @@
 use Rattle.std.proofs.Common.{◌≡◌, ◌∙◌, ◌++◌, ◌∷◌, [], inr, refl, sym, ap, append_assoc, append-nil, List, true, false}
-use Rattle.flow_machine.specs.declared.task.Task.{Task}
+use Rattle.flow_base.specs.declared.task.Task.{Task}
 use Rattle.flow_pool.specs.Ends.{taken_by}
 use Rattle.flow_pool.specs.Reports.{Telling, MayCome, is_left}
 use Rattle.flow_pool.proofs.Telling.{goes_on, does_as, left_same}

@@ -1,7 +1,7 @@
 use Rattle.std.proofs.Common.{◌≡◌, ◌++◌, ℕ, List, is_some}
 use Rattle.flow_pool.specs.Ends.{taken_by, number_of, IsSameEnd}
 use Rattle.flow_pool.specs.Reports.{Telling, MayCome, GoesOn, first_named, is_left}
-use Rattle.flow_machine.specs.declared.task.Task.{Task}
+use Rattle.flow_base.specs.declared.task.Task.{Task}
 use Rattle.flow_pool.specs.declared.activity.Attempt.{Attempt}
 use Rattle.flow_pool.proofs.worker.worker.Given as goal
 

@@ -1,6 +1,6 @@
 use Rattle.std.proofs.Common.{◌≡◌, ◌&&◌, not, drop}
 use Rattle.std.specs.BTreeSet.{contains}
-use Rattle.flow_machine.specs.Keys.{Key}
+use Rattle.flow_base.specs.Keys.{Key}
 use Rattle.flow_queues.specs.Posting.{key_cmp, has_key, chosen}
 use Rattle.flow_queues.proofs.posting.remove_marked.Given as goal
 

@@ -11,7 +11,7 @@ pub returns-clause-mark : goal.returns-clause-mark
 returns-clause-mark c =
     let ls = c.args.table.now.lists.items in
     let cell = c.enter.new.cell in
-    let none : c.new.result.items ≡ [] = search rules in
+    let none : c.in_ok-places.places.items ≡ [] = search rules in
     task_mark ls (blocks_of ls cell.places.items) cell.doing c.in_ok-enter.ensures.task
     ∙ ap One c.in_ok-enter.ensures.rest
     ∙ ap (λ (ps : List Place). One (within (blocks_of ls ps) (rest_of (block_at ls c.args.list)))) none

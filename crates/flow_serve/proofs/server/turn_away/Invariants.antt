@@ -1,5 +1,5 @@
 use Rattle.std.proofs.Common.{◌≡◌, List, []}
-use Rattle.flow_machine.specs.declared.submission.Taken.{Taken}
+use Rattle.flow_base.specs.declared.submission.Taken.{Taken}
 use Rattle.flow_hub.specs.Knowing.{IsBefore}
 use Rattle.flow_serve.specs.Serving.{TurnsAway}
 use Rattle.flow_serve.proofs.server.turn_away.Given as goal

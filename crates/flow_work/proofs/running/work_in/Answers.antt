@@ -1,25 +1,17 @@
-use Rattle.std.proofs.Common.{refl, subst}
+use Rattle.std.proofs.Common.{refl, rules, subst}
+use Rattle.std.proofs.lemmas.Result.{err_from_is_err_and}
 use Rattle.flow_lines.specs.Commands.{line_command}
 use Rattle.flow_hub.specs.Knowing.{nothing}
 use Rattle.flow_work.specs.Counting.{Counted}
+use Rattle.flow_work.proofs.Ran.{has_run, not_run}
 use Rattle.flow_work.proofs.Served.{prints}
 use Rattle.flow_work.proofs.running.work_in.Goals as goal
 
 -- it has served
-pub returns-in-Ok-clause-served : goal.returns-in-Ok-clause-served
-returns-in-Ok-clause-served g c = rw c.ended_with.ensures.served c.serve_new-served.ensures.served
-
-pub returns-in-Ok-clause-ends : goal.returns-in-Ok-clause-ends
-returns-in-Ok-clause-ends g c = rw c.ended_with.ensures.served c.serve_new-served.ensures.ends
-
-pub returns-in-Ok-clause-goes_on : goal.returns-in-Ok-clause-goes_on
-returns-in-Ok-clause-goes_on g c = rw c.ended_with.ensures.served c.serve_new-served.ensures.goes_on
-
-pub returns-in-Ok-clause-found : goal.returns-in-Ok-clause-found
-returns-in-Ok-clause-found g c = c.serve_new-served.ensures.found
-
-pub returns-in-Ok-clause-follows : goal.returns-in-Ok-clause-follows
-returns-in-Ok-clause-follows g c = c.serve_new-served.ensures.follows
+pub returns-in-Ok-clause-ran : goal.returns-in-Ok-clause-ran
+returns-in-Ok-clause-ran g c =
+    let s = c.serve_new-served in
+    has_run g.S.Store c.args.engine.now s.new.engine c.ended_with.result _ s.result c.ended_with.ensures.served s.ensures.served s.ensures.ends s.ensures.goes_on s.ensures.found s.ensures.follows
 
 -- it has printed replies
 pub returns-in-Ok-clause-printed : goal.returns-in-Ok-clause-printed
@@ -33,17 +25,13 @@ returns-in-Ok-clause-printed g c =
     prints g.S.Store tells c.args.engine.now c.serve_new-served.new.engine first (g.W.Write.contents after.result.writer) after.result.status answered.lines c.serve_new-served.new.publisher after.new.publisher answered.submitter answered.page now
     c.serve_new-served.ensures.hub after.ensures.part after.ensures.submitter after.ensures.printed.0 after.ensures.printed.1
 
-pub returns-in_err-publisher-clause-follows : goal.returns-in_err-publisher-clause-follows
-returns-in_err-publisher-clause-follows g c = (refl, λ fit. fit)
+pub returns-in_err-publisher-clause-ran : goal.returns-in_err-publisher-clause-ran
+returns-in_err-publisher-clause-ran g c =
+    let p = err_from_is_err_and c.from_residual.result c.from_residual.ensures.1 in
+    rw p.1 (not_run g.S.Store c.args.engine.now _ p.0 p.2)
 
-pub returns-clause-follows : goal.returns-clause-follows
-returns-clause-follows g c = (refl, λ fit. fit)
-
-pub returns-in_err-publisher-clause-found : goal.returns-in_err-publisher-clause-found
-returns-in_err-publisher-clause-found g c = refl
-
-pub returns-clause-found : goal.returns-clause-found
-returns-clause-found g c = refl
+pub returns-clause-ran : goal.returns-clause-ran
+returns-clause-ran g c = not_run g.S.Store c.args.engine.now _ c.in-Err.fault c.in-Err.ensures.refused
 
 pub serve_new-served-requires-clause-fresh : goal.serve_new-served-requires-clause-fresh
 serve_new-served-requires-clause-fresh g c = c.requires.fresh

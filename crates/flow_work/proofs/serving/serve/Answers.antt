@@ -1,32 +1,18 @@
-use Rattle.std.proofs.Common.{refl}
+use Rattle.std.proofs.Common.{rules}
+use Rattle.std.proofs.lemmas.Result.{err_from_is_err_and}
+use Rattle.flow_work.proofs.Ran.{not_run}
 use Rattle.flow_work.proofs.serving.serve.Goals as goal
 
-pub returns-in_err-group-clause-follows : goal.returns-in_err-group-clause-follows
-returns-in_err-group-clause-follows g c = (refl, λ fit. fit)
+pub returns-in_err-group-clause-ran : goal.returns-in_err-group-clause-ran
+returns-in_err-group-clause-ran g c =
+    let p = err_from_is_err_and c.from_residual.result c.from_residual.ensures.1 in
+    rw p.1 (not_run g.S.Store c.args.engine.now _ p.0 p.2)
 
-pub returns-clause-served : goal.returns-clause-served
-returns-clause-served g c = c.serve_in.ensures.served
-
-pub returns-clause-ends : goal.returns-clause-ends
-returns-clause-ends g c = c.serve_in.ensures.ends
-
-pub returns-clause-goes_on : goal.returns-clause-goes_on
-returns-clause-goes_on g c = c.serve_in.ensures.goes_on
-
-pub returns-clause-unserved : goal.returns-clause-unserved
-returns-clause-unserved g c = c.serve_in.ensures.unserved
-
-pub returns-clause-found : goal.returns-clause-found
-returns-clause-found g c = c.serve_in.ensures.found
-
-pub returns-clause-follows : goal.returns-clause-follows
-returns-clause-follows g c = c.serve_in.ensures.follows
+pub returns-clause-ran : goal.returns-clause-ran
+returns-clause-ran g c = c.serve_in.ensures.ran
 
 pub returns-clause-shown : goal.returns-clause-shown
 returns-clause-shown g c = c.serve_in.ensures.shown
 
 pub returns-clause-status : goal.returns-clause-status
 returns-clause-status g c = c.serve_in.ensures.status
-
-pub returns-in_err-group-clause-found : goal.returns-in_err-group-clause-found
-returns-in_err-group-clause-found g c = refl

@@ -1,7 +1,9 @@
-use Rattle.std.proofs.Common.{List, refl, subst, sym}
+use Rattle.std.proofs.Common.{List, rules, subst, sym}
+use Rattle.std.proofs.lemmas.Result.{err_from_is_err_and}
 use Rattle.flow_work.specs.Counting.{Counted, IsStatusOf}
 use Rattle.flow_work.specs.declared.shown.Shown.{Shown}
 use Rattle.flow_work.specs.Questions.{line_served}
+use Rattle.flow_work.proofs.Ran.{has_run, not_run}
 use Rattle.flow_work.proofs.Served.{shows}
 use Rattle.flow_work.proofs.serving.serve_in.Goals as goal
 
@@ -18,20 +20,10 @@ returns-in-Ok-clause-shown g c =
     told.submitter told.page now c.serve_new-served.ensures.hub after.ensures.part after.ensures.submitter after.ensures.feed after.ensures.printed.0 after.ensures.printed.1 after.ensures.lines after.ensures.printed.2
 
 -- it has served
-pub returns-in-Ok-clause-served : goal.returns-in-Ok-clause-served
-returns-in-Ok-clause-served g c = rw c.taken_back.ensures.served c.serve_new-served.ensures.served
-
-pub returns-in-Ok-clause-ends : goal.returns-in-Ok-clause-ends
-returns-in-Ok-clause-ends g c = rw c.taken_back.ensures.served c.serve_new-served.ensures.ends
-
-pub returns-in-Ok-clause-goes_on : goal.returns-in-Ok-clause-goes_on
-returns-in-Ok-clause-goes_on g c = rw c.taken_back.ensures.served c.serve_new-served.ensures.goes_on
-
-pub returns-in-Ok-clause-found : goal.returns-in-Ok-clause-found
-returns-in-Ok-clause-found g c = c.serve_new-served.ensures.found
-
-pub returns-in-Ok-clause-follows : goal.returns-in-Ok-clause-follows
-returns-in-Ok-clause-follows g c = c.serve_new-served.ensures.follows
+pub returns-in-Ok-clause-ran : goal.returns-in-Ok-clause-ran
+returns-in-Ok-clause-ran g c =
+    let s = c.serve_new-served in
+    has_run g.S.Store c.args.engine.now s.new.engine c.taken_back.result _ s.result c.taken_back.ensures.served s.ensures.served s.ensures.ends s.ensures.goes_on s.ensures.found s.ensures.follows
 
 pub returns-in-Ok-clause-status : goal.returns-in-Ok-clause-status
 returns-in-Ok-clause-status g c =
@@ -44,17 +36,13 @@ returns-in-Ok-clause-status g c =
     (subst (λ (xs : List Shown). IsStatusOf told.page.is_mute xs after.result.ended.status) (sym printed.2)
     (subst (IsStatusOf told.page.is_mute told.page.shown) (sym after.ensures.status) counted.says.status))
 
-pub returns-in_err-publisher-clause-follows : goal.returns-in_err-publisher-clause-follows
-returns-in_err-publisher-clause-follows g c = (refl, λ fit. fit)
+pub returns-in_err-publisher-clause-ran : goal.returns-in_err-publisher-clause-ran
+returns-in_err-publisher-clause-ran g c =
+    let p = err_from_is_err_and c.from_residual.result c.from_residual.ensures.1 in
+    rw p.1 (not_run g.S.Store c.args.engine.now _ p.0 p.2)
 
-pub returns-clause-follows : goal.returns-clause-follows
-returns-clause-follows g c = (refl, λ fit. fit)
-
-pub returns-in_err-publisher-clause-found : goal.returns-in_err-publisher-clause-found
-returns-in_err-publisher-clause-found g c = refl
-
-pub returns-clause-found : goal.returns-clause-found
-returns-clause-found g c = refl
+pub returns-clause-ran : goal.returns-clause-ran
+returns-clause-ran g c = not_run g.S.Store c.args.engine.now _ c.in-Err.fault c.in-Err.ensures.refused
 
 pub serve_new-served-requires-clause-fresh : goal.serve_new-served-requires-clause-fresh
 serve_new-served-requires-clause-fresh g c = c.requires.fresh

@@ -3,7 +3,7 @@ use Rattle.std.specs.Prelude.{MatchResult, OnOk}
 use Rattle.std.proofs.lemmas.Result.{IfOk-weaker}
 use Rattle.flow_commit.specs.Committing.{HasGoneOn}
 use Rattle.flow_commit.specs.Keeping.{Keeping, rules, kept_book, IsFit}
-use Rattle.flow_machine.specs.Answers.{Answers, CausedAnswer}
+use Rattle.flow_model.specs.Answers.{Answers, CausedAnswer}
 use Rattle.flow_engine.specs.Answering.{HasAnswered, IsPart, Follows, IsSure}
 use Rattle.flow_engine.specs.GivingUp.{GivesUp}
 use Rattle.flow_engine.proofs.Singly.{one_alone}

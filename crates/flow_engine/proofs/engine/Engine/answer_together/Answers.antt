@@ -6,7 +6,7 @@ use Rattle.flow_model.specs.Book.{Book}
 use Rattle.flow_tables.specs.Owned.{state_of, LeavesEither}
 use Rattle.flow_commit.specs.Committing.{HasGoneOn}
 use Rattle.flow_commit.specs.Keeping.{Keeping, IsFit, KeepsBook, rules, commands_of, kept_book}
-use Rattle.flow_machine.specs.Answers.{AnswersTogether, CausedTogether}
+use Rattle.flow_model.specs.Answers.{AnswersTogether, CausedTogether}
 use Rattle.flow_engine.specs.Answering.{Follows, HasAnswered, IsSure}
 use Rattle.flow_engine.specs.GivingUp.{GivesUp}
 use Rattle.flow_engine.specs.Together.{KeepsTogether}

@@ -1,6 +1,5 @@
-use Rattle.std.proofs.Common.{rules, ◌∙◌, sym}
 use Rattle.flow_hub.proofs.Moves.{parts}
 use Rattle.flow_hub.proofs.seats.HubTable.hands.Goals as goal
 
-pub split_seat-seat-requires : goal.split_seat-seat-requires
-split_seat-seat-requires g c = (c.keeper.invariant.0 ∙ sym c.args.self.now.named, search rules, parts c.keeper.inside.seat.id c.keeper.inside.seat.me.0)
+pub split-requires : goal.split-requires
+split-requires g c = record { may = λ by. parts by c.args.keeper.now }

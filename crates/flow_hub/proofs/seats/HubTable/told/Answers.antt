@@ -10,4 +10,4 @@ store-requires-clause-owing g c =
     rw (c.lend.ensures, here) c.requires.owing
 
 pub returns-clause-told : goal.returns-clause-told
-returns-clause-told g c = hands_back c.args.keeper.now c.args.me c.lend.new.keeper c.store.new.keeper c.back.result c.args.all.now c.requires.keeps.1 c.lend.ensures c.store.ensures.added c.back.ensures.1
+returns-clause-told g c = hands_back c.args.keeper.now c.args.me c.lend.new.mine c.store.new.keeper c.back.result c.args.all.now c.requires.keeps.1 c.lend.ensures c.store.ensures.added c.back.ensures.1
