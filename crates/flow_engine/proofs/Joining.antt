@@ -12,7 +12,7 @@ use Rattle.flow_commit.specs.Keeping.{Keeping, rules, IsFit, KeepsBook, command_
 use Rattle.flow_engine.specs.declared.done.Done.{Done}
 use Rattle.flow_engine.specs.declared.done.Done.TheVariants as done
 use Rattle.flow_engine.specs.Driving.{AreAnswers, Passes, LeadsTo, Drives, Runs, all_halted, has_unknown, gathered, if_kept, kept_of, in_hand}
-use Rattle.flow_engine.proofs.OneMore.{nothing_yet}
+use Rattle.flow_engine.proofs.OneMore.{Stands, nothing_yet}
 use Rattle.flow_engine.proofs.Gathering.{off, same_length, none_in_hand, no_hand_of_halted, none_kept_of_halted, replies_told}
 
 gathered_join : {A : Type 0} (f : List Taken → Done → List A) (bs cs : List (List Taken)) (ds es : List Done) → length bs ≡ length ds → gathered f (bs ++ cs) (ds ++ es) ≡ gathered f bs ds ++ gathered f cs es
@@ -72,7 +72,7 @@ module _ {S : Type 0} (g : Ghosts S) where
       (passes.0, passes.1, passes.2, passes_join passes.0 mid new (after rules b (if_kept x y)) bs cs ds es passes.3 over)
 
   -- an engine that has halted stays
-  passes_halted : (old new : Keeping S) (b : Book) (cs : List (List Taken)) → old.halted ≡ true → new ≡ old → Passes g old new b cs (all_halted cs)
+  pub passes_halted : (old new : Keeping S) (b : Book) (cs : List (List Taken)) → old.halted ≡ true → new ≡ old → Passes g old new b cs (all_halted cs)
   passes_halted old new b [] halted same = same
   passes_halted old new b (c ∷ cs) halted same = (old, (halted, refl), tt, passes_halted old new b cs halted same)
 
@@ -95,9 +95,10 @@ module _ {S : Type 0} (g : Ghosts S) where
             (subst (λ x. LeavesEither (state_of g new.stored) x (after rules (after rules b k) (l ++ h))) (sym (after_cut rules b k l)) two.stops));
       }
 
-  module _ (old mid new : Keeping S) (b : Book) (bs cs : List (List Taken)) (ds es : List Done) (one : Drives g old mid b bs ds) where
+  -- Batches that lead somewhere, and more behind them.
+  module _ (old mid new : Keeping S) (b : Book) (bs cs : List (List Taken)) (ds es : List Done) (one : Stands g old b mid bs ds) where
     long : length bs ≡ length ds
-    long = same_length old.kept b bs ds one.answers
+    long = same_length old.kept b bs ds one.0
 
     kept_join : kept_of (bs ++ cs) (ds ++ es) ≡ kept_of bs ds ++ kept_of cs es
     kept_join = gathered_join _ bs cs ds es long
@@ -105,42 +106,37 @@ module _ {S : Type 0} (g : Ghosts S) where
     hand_join : in_hand (bs ++ cs) (ds ++ es) ≡ in_hand bs ds ++ in_hand cs es
     hand_join = gathered_join _ bs cs ds es long
 
-    goes_on : has_unknown ds ≡ false → Drives g mid new (after rules b (kept_of bs ds)) cs es → Drives g old new b (bs ++ cs) (ds ++ es)
-    goes_on known two =
-        let counted : mid.kept ≡ old.kept + length (kept_of bs ds) = one.leads.counts known in
-        let all = answers_join old.kept b bs cs ds es known one.answers (subst (λ n. AreAnswers n (after rules b (kept_of bs ds)) cs es) counted two.answers) in
-        record {
-          answers = all;
-          replies = replies_told old.kept b (bs ++ cs) (ds ++ es) all;
-          leads =
-              leads_by old new b (has_unknown es) (has_unknown (ds ++ es)) _ _ _ _ (unknown_join ds es known) kept_join (hand_join ∙ ap (λ l. l ++ in_hand cs es) (none_in_hand bs ds known))
-              (leads_on old mid new b (has_unknown es) (kept_of bs ds) (kept_of cs es) (in_hand cs es) counted two.leads);
-          passes = passes_join old mid new b bs cs ds es one.passes two.passes;
-        }
+    pub stands_join : has_unknown ds ≡ false → Stands g mid (after rules b (kept_of bs ds)) new cs es → Stands g old b new (bs ++ cs) (ds ++ es)
+    stands_join known two =
+        let counted : mid.kept ≡ old.kept + length (kept_of bs ds) = one.1.counts known in (
+          answers_join old.kept b bs cs ds es known one.0 (subst (λ n. AreAnswers n (after rules b (kept_of bs ds)) cs es) counted two.0),
+          leads_by old new b (has_unknown es) (has_unknown (ds ++ es)) _ _ _ _ (unknown_join ds es known) kept_join (hand_join ∙ ap (λ l. l ++ in_hand cs es) (none_in_hand bs ds known))
+              (leads_on old mid new b (has_unknown es) (kept_of bs ds) (kept_of cs es) (in_hand cs es) counted two.1),
+        )
 
-    stays : has_unknown ds ≡ true → new ≡ mid → es ≡ all_halted cs → Drives g old new b (bs ++ cs) (ds ++ es)
-    stays unknown same halted =
-        let all = subst (λ l. AreAnswers old.kept b (bs ++ cs) (ds ++ l)) (sym halted) (halted_join old.kept b bs cs ds unknown one.answers) in
+    pub stands_stays : has_unknown ds ≡ true → new ≡ mid → es ≡ all_halted cs → Stands g old b new (bs ++ cs) (ds ++ es)
+    stands_stays unknown same halted =
         let no_more = ap (kept_of cs) halted ∙ none_kept_of_halted cs cs in
-        let no_hand = ap (in_hand cs) halted ∙ no_hand_of_halted cs cs in
-        record {
-          answers = all;
-          replies = replies_told old.kept b (bs ++ cs) (ds ++ es) all;
-          leads =
-              leads_by old new b (has_unknown ds) (has_unknown (ds ++ es)) _ _ _ _ (unknown_stays ds es unknown ∙ sym unknown)
+        let no_hand = ap (in_hand cs) halted ∙ no_hand_of_halted cs cs in (
+          subst (λ l. AreAnswers old.kept b (bs ++ cs) (ds ++ l)) (sym halted) (halted_join old.kept b bs cs ds unknown one.0),
+          leads_by old new b (has_unknown ds) (has_unknown (ds ++ es)) _ _ _ _ (unknown_stays ds es unknown ∙ sym unknown)
               (kept_join ∙ ap (λ l. kept_of bs ds ++ l) no_more ∙ append-nil (kept_of bs ds)) (hand_join ∙ ap (λ l. in_hand bs ds ++ l) no_hand ∙ append-nil (in_hand bs ds))
-              (subst (λ k. LeadsTo g old k b (has_unknown ds) (kept_of bs ds) (in_hand bs ds)) (sym same) one.leads);
-          passes =
-              passes_join old mid new b bs cs ds es one.passes
-              (subst (λ l. Passes g mid new (after rules b (kept_of bs ds)) cs l) (sym halted) (passes_halted mid new (after rules b (kept_of bs ds)) cs (one.leads.halted ∙ unknown) same));
-        }
+              (subst (λ k. LeadsTo g old k b (has_unknown ds) (kept_of bs ds) (in_hand bs ds)) (sym same) one.1),
+        )
+
+  pub drives_by : (old new : Keeping S) (b : Book) (bs : List (List Taken)) (ds : List Done) → Stands g old b new bs ds → Passes g old new b bs ds → Drives g old new b bs ds
+  drives_by old new b bs ds stands passes = record { answers = stands.0; replies = replies_told old.kept b bs ds stands.0; leads = stands.1; passes = passes }
 
   drives_join : (old mid new : Keeping S) (b : Book) (bs cs : List (List Taken)) (ds es : List Done) → IsFit g new → Runs g mid new cs es → Drives g old mid b bs ds → (u : Bool) → has_unknown ds ≡ u → Drives g old new b (bs ++ cs) (ds ++ es)
   drives_join old mid new b bs cs ds es fit two one true unknown =
       let still = two.still (one.leads.halted ∙ unknown) in
-      stays old mid new b bs cs ds es one unknown still.0 still.1
+      drives_by old new b (bs ++ cs) (ds ++ es) (stands_stays old mid new b bs cs ds es (one.answers, one.leads) unknown still.0 still.1)
+      (passes_join old mid new b bs cs ds es one.passes
+      (subst (λ l. Passes g mid new (after rules b (kept_of bs ds)) cs l) (sym still.1) (passes_halted mid new (after rules b (kept_of bs ds)) cs (one.leads.halted ∙ unknown) still.0)))
   drives_join old mid new b bs cs ds es fit two one false known =
-      goes_on old mid new b bs cs ds es one known (two.drives fit (after rules b (kept_of bs ds)) (one.leads.book known) (one.leads.halted ∙ known))
+      let more = two.drives fit (after rules b (kept_of bs ds)) (one.leads.book known) (one.leads.halted ∙ known) in
+      drives_by old new b (bs ++ cs) (ds ++ es) (stands_join old mid new b bs cs ds es (one.answers, one.leads) known (more.answers, more.leads))
+      (passes_join old mid new b bs cs ds es one.passes more.passes)
 
   pub runs_join : (old mid new : Keeping S) (bs cs : List (List Taken)) (ds es : List Done) → Runs g old mid bs ds → Runs g mid new cs es → Runs g old new (bs ++ cs) (ds ++ es)
   runs_join old mid new bs cs ds es one two = record {

@@ -1,4 +1,6 @@
 pub mod AtOnce
+pub mod Boarding
+pub mod Calls
 pub mod Committed
 pub mod EmptyFirst
 pub mod Filling

@@ -12,25 +12,28 @@ use Rattle.flow_base.specs.declared.command.Command.{Command}
 use Rattle.flow_base.specs.declared.fault.Fault.{Fault}
 use Rattle.flow_base.specs.declared.submission.Taken.{Taken}
 use Rattle.flow_base.specs.declared.submission.Receipt.{Receipt}
+use Rattle.flow_check.specs.Language.{meaning_of}
 use Rattle.flow_model.specs.Book.{Book, nth}
 use Rattle.flow_model.specs.Apply.{after, after_one, replies}
 use Rattle.flow_model.proofs.Logs.{after_cut, replies_cut, length-replies, nth_at}
-use Rattle.flow_tables.specs.Owned.{IsOurs, IsFound}
+use Rattle.flow_tables.specs.Owned.{IsOurs, IsFound, state_of}
 use Rattle.flow_view.specs.declared.fault.ViewFault.TheVariants as fault
 use Rattle.flow_tables.specs.Opening.{IsOfStore}
 use Rattle.flow_tables.proofs.Opened.{of_tables}
 use Rattle.flow_commit.specs.Keeping.{Keeping, IsFit, IsWell, KeepsBook, rules, command_of, commands_of, receipt_of, receipts_of}
 use Rattle.flow_commit.proofs.RunningOut.{only_numbers}
 use Rattle.flow_recover.specs.declared.positions.Position.{Position}
+use Rattle.flow_recover.specs.Positions.{ArePositions}
 use Rattle.flow_recover.specs.Recovering.{HoldBook, IsOpenedOver, StillHolds}
 use Rattle.flow_recover.proofs.Recovering.{one_found, found_ours, kept_found, held_found, well_before, well_sound}
 use Rattle.flow_engine.specs.declared.done.Done.{Done}
 use Rattle.flow_engine.specs.declared.done.Done.TheVariants as done
-use Rattle.flow_engine.specs.Driving.{AreAnswers, Drives, IsDoneFor, IsDoneOnlyFor, Passes, PassesOnly, all_halted, if_kept, gathered, kept_of, receipts_in}
-use Rattle.flow_engine.specs.Opening.{IsUnopened, Opens}
+use Rattle.flow_engine.specs.Boarding.{PassesBoarded, PassesBoardedOnly}
+use Rattle.flow_engine.specs.Driving.{AreAnswers, IsDoneFor, IsDoneOnlyFor, LeadsTo, Passes, PassesOnly, all_halted, has_unknown, if_kept, in_hand, gathered, kept_of, receipts_in}
+use Rattle.flow_engine.specs.Opening.{HasFound, IsUnopened, Opens}
 use Rattle.flow_engine.proofs.Found.{found_of}
 use Rattle.flow_engine.proofs.OneMore.{after_well, left_well}
-use Rattle.flow_engine.specs.Headline.{Life, Lived, Refused, seen, IsLife, Begins, Continues, Lives, Finds, Works, IsIn, AreIn, Headline, OpenedBegin}
+use Rattle.flow_engine.specs.Headline.{Life, Lived, Served, Refused, seen, IsLife, Begins, Continues, Lives, Finds, Works, IsIn, AreIn, Headline, OpenedBegin}
 
 ---- Places in a list
 
@@ -149,6 +152,17 @@ module _ {S : Type 0} (g : Ghosts S) where
   passes_only old new b (x ∷ bs) (d ∷ ds) well h =
       (h.0, h.1, only_for old h.0 b x d well h.2, passes_only h.0 new (after rules b (if_kept x d)) bs ds (after_well b (if_kept x d) well) h.3)
 
+  boarded_only : (old new : Keeping S) (b : Book) (bs : List (List Taken)) (ds : List Done) → IsWell b → PassesBoarded g old new b bs ds → PassesBoardedOnly g old new b bs ds
+  boarded_only old new b [] [] well still = still
+  boarded_only old new b [] (d ∷ ds) well none = absurd none
+  boarded_only old new b (x ∷ bs) [] well none = absurd none
+  boarded_only old new b (x ∷ bs) (d ∷ ds) well h =
+      let one = h.1 in (
+        h.0,
+        record { asked = one.asked; still = one.still; does = one.does; cause = only_for one.asked h.0 b x d well one.cause },
+        boarded_only h.0 new (after rules b (if_kept x d)) bs ds (after_well b (if_kept x d) well) h.2,
+      )
+
   -- the engine keeps the book that the store held
   book_again : (k : Book) (conn : Held S) (first : Keeping S) → (HasCleanDisk (state g conn) → IsFound (state g conn) k) → Opens g conn first → IsFit g first → KeepsBook g first k
   book_again k conn first held opens fit =
@@ -162,6 +176,7 @@ module _ {S : Type 0} (g : Ghosts S) where
   -- what its batches were answered
   abbrev pub IsAnswered : Book → Life S → Type 0
   IsAnswered k (Lived conn first qs last bs ds) = AreAnswers 0 k bs ds
+  IsAnswered k (Served conn first qs last bs ds) = AreAnswers 0 k bs ds
   IsAnswered k (Refused conn f back) = Unit {0}
 
   pub record Step (k : Book) (l : Life S) : Type 0 where
@@ -178,14 +193,14 @@ module _ {S : Type 0} (g : Ghosts S) where
   handed_back : (k : Book) (held conn : Held S) → conn ≡ held → IsTrue (state g held).is_open → IsFound (state g held) k → StandsOver k conn
   handed_back k held conn same up found clean = (subst (λ (h : Held S). IsTrue (state g h).is_open) (sym same) up, subst (λ (h : Held S). IsFound (state g h) k) (sym same) found)
 
-  next_lived : (k : Book) (conn : Held S) (first : Keeping S) (qs : List Position) (last : Keeping S) (bs : List (List Taken)) (ds : List Done) → IsWell k → Drives g first last k bs ds
+  next_lived : (k : Book) (conn : Held S) (first : Keeping S) (qs : List Position) (last : Keeping S) (bs : List (List Taken)) (ds : List Done) → IsWell k → LeadsTo g first last k (has_unknown ds) (kept_of bs ds) (in_hand bs ds)
       → (m : Life S) → Continues g (seen (Lived conn first qs last bs ds)) (seen m) → ∥ Next k (Lived conn first qs last bs ds) m ∥₁
-  next_lived k conn first qs last bs ds well drives m (inl stopped) = ∥∥₁_map stopped (λ s.
-      let left = left_well g first last k bs ds well drives s.0 s.1 in
+  next_lived k conn first qs last bs ds well leads m (inl stopped) = ∥∥₁_map stopped (λ s.
+      let left = left_well g first last k bs ds well leads s.0 s.1 in
       (left.commands, left.are, left.well, opened_again (after rules k left.commands) s.0 (seen m).conn (inl left.file) s.2))
-  next_lived k conn first qs last bs ds well drives m (inr closed) =
+  next_lived k conn first qs last bs ds well leads m (inr closed) =
       let over = after rules k (kept_of bs ds) in
-      let found = kept_found (state g last.stored.held) over (closed.1, drives.leads.still closed.1) in
+      let found = kept_found (state g last.stored.held) over (closed.1, leads.still closed.1) in
       ∣ (kept_of bs ds, inl refl, after_well k (kept_of bs ds) well, handed_back over last.stored.held (seen m).conn closed.0 closed.1 found) ∣₁
 
   next_refused : (k : Book) (conn back : Held S) (f : Fault) → IsWell k → StillHolds (state g conn) (state g back) k → (m : Life S) → Continues g (seen (Refused conn f back)) (seen m) → ∥ Next k (Refused conn f back) m ∥₁
@@ -197,22 +212,46 @@ module _ {S : Type 0} (g : Ghosts S) where
   told_so k conn back f well told clean (inl held) = of_tables f (told.own clean (λ _. well_sound (state g conn) k held well))
   told_so k conn back f well told clean (inr before) = told.own_before clean (λ _. well_before (state g conn) k before well)
 
+  -- the tables that were opened were ours or none, at the end of a life too
+  fit_last : (k : Book) (conn : Held S) (first last : Keeping S) → (HasCleanDisk (state g conn) → IsFound (state g conn) k) → HasCleanDisk (state_of g last.stored) → Opens g conn first
+      → last.stored.opened ≡ first.stored.opened → IsFit g last
+  fit_last k conn first last begin clean opens same =
+      let ours : IsOurs (state g conn) = found_ours (state g conn) k begin in
+      (subst (λ (h : Held S). IsOurs (state g h)) (sym (same ∙ opens.opened)) ours, clean)
+
+  -- what opening found
+  found_first : (k : Book) (conn : Held S) (first : Keeping S) (qs : List Position) → (HasCleanDisk (state g conn) → IsFound (state g conn) k) → Opens g conn first → (IsFit g first → HasFound g first qs) → IsFit g first
+      → KeepsBook g first k × ArePositions meaning_of k qs
+  found_first k conn first qs begin opens has fit =
+      let its = subst (λ (h : Held S). IsFound (state g h) k) (sym opens.opened) (begin (opens.clean fit.1)) in
+      (book_again k conn first begin opens fit, found_of g first qs k (has fit) its)
+
   pub stepped : (k : Book) (l : Life S) → IsWell k → Begins g k l → IsLife g l → Step k l
   stepped k (Lived conn first qs last bs ds) well begin (clean, opens, has, runs) =
-      let ours : IsOurs (state g conn) = found_ours (state g conn) k begin in
-      let fit : IsFit g last = (subst (λ (h : Held S). IsOurs (state g h)) (sym (runs.opened ∙ opens.opened)) ours, clean) in
-      let before = runs.fit fit in
-      let keeps = book_again k conn first begin opens before in
-      let drives = runs.drives fit k keeps opens.anew.1 in
-      let its = subst (λ (h : Held S). IsFound (state g h) k) (sym opens.opened) (begin (opens.clean before.1)) in
+      let fit = fit_last k conn first last begin clean opens runs.opened in
+      let found = found_first k conn first qs begin opens has (runs.fit fit) in
+      let drives = runs.drives fit k found.0 opens.anew.1 in
       let answers = subst (λ n. AreAnswers n k bs ds) opens.anew.0 drives.answers in
       record {
-        found = (keeps, found_of g first qs k (has before) its);
+        found = found;
         works = passes_only first last k bs ds well drives.passes;
         answered = answers;
-        left = λ db may. (let left = left_well g first last k bs ds well drives db may in (left.commands, left.are, inl left.file));
+        left = λ db may. (let left = left_well g first last k bs ds well drives.leads db may in (left.commands, left.are, inl left.file));
         told = answer_at 0 k bs ds answers;
-        next = next_lived k conn first qs last bs ds well drives;
+        next = next_lived k conn first qs last bs ds well drives.leads;
+      }
+  stepped k (Served conn first qs last bs ds) well begin (clean, opens, has, runs) =
+      let fit = fit_last k conn first last begin clean opens runs.opened in
+      let found = found_first k conn first qs begin opens has (runs.fit fit) in
+      let serves = runs.serves fit k found.0 opens.anew.1 in
+      let answers = subst (λ n. AreAnswers n k bs ds) opens.anew.0 serves.answers in
+      record {
+        found = found;
+        works = boarded_only first last k bs ds well serves.passes;
+        answered = answers;
+        left = λ db may. (let left = left_well g first last k bs ds well serves.leads db may in (left.commands, left.are, inl left.file));
+        told = answer_at 0 k bs ds answers;
+        next = next_lived k conn first qs last bs ds well serves.leads;
       }
   stepped k (Refused conn f back) well begin (clean, told) =
       let its = told.holds clean k begin in
@@ -230,6 +269,7 @@ module _ {S : Type 0} (g : Ghosts S) where
 
   pub begins_over : (k : Book) (m : Life S) → StandsOver k (seen m).conn → Begins g k m
   begins_over k (Lived conn first qs last bs ds) over = λ clean. (over clean).1
+  begins_over k (Served conn first qs last bs ds) over = λ clean. (over clean).1
   begins_over k (Refused conn f back) over = over
 
   pub opened_begin : OpenedBegin g

@@ -307,12 +307,12 @@ pub after_well : (b : Book) (l : List Command) → IsWell b → IsWell (after ru
 after_well b l well = record { sound = after_keeps rules b l reads_well_formed well.sound; orderly = orderly_after rules b l well.orderly }
 
 -- what a stop leaves is found again
-pub left_well : {S : Type 0} (g : Ghosts S) (old new : Keeping S) (b : Book) (batches : List (List Taken)) (dones : List Done) → IsWell b → Drives g old new b batches dones
+pub left_well : {S : Type 0} (g : Ghosts S) (old new : Keeping S) (b : Book) (batches : List (List Taken)) (dones : List Done) → IsWell b → LeadsTo g old new b (has_unknown dones) (kept_of batches dones) (in_hand batches dones)
     → (db : Trees) → (state_of g new.stored).may_leave db → IsLeft db b (kept_of batches dones) (in_hand batches dones)
-left_well g old new b batches dones well drove db may =
+left_well g old new b batches dones well leads db may =
     let kept = kept_of batches dones in
     let hand = in_hand batches dones in
-    elim (drove.leads.stops db may) [
+    elim (leads.stops db may) [
       | inl before ↦ record { commands = kept; are = inl refl; file = before; well = after_well b kept well }
       | inr whole ↦ record { commands = kept ++ hand; are = inr refl; file = whole; well = after_well b (kept ++ hand) well }
     ]

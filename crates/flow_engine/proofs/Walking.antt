@@ -22,7 +22,7 @@ use Rattle.flow_recover.proofs.Recovering.{one_held}
 use Rattle.flow_engine.specs.declared.done.Done.{Done}
 use Rattle.flow_engine.specs.declared.done.Done.TheVariants as done
 use Rattle.flow_engine.specs.Driving.{AreAnswers, all_halted, kept_of, in_hand, receipts_told}
-use Rattle.flow_engine.specs.Headline.{Life, Lived, Refused, seen, IsLife, Begins, Continues, Lives}
+use Rattle.flow_engine.specs.Headline.{Life, Lived, Served, Refused, seen, IsLife, Begins, Continues, Lives}
 use Rattle.flow_engine.specs.Worlds.{given_at, IsTakenAtOnce, AreGathered, EndsIn, AreSteps, LivesAreSteps}
 use Rattle.flow_engine.proofs.Gathering.{none_kept_of_halted, no_hand_of_halted}
 use Rattle.flow_engine.proofs.Lives as lives
@@ -324,9 +324,9 @@ module _ (limit : ℕ) (b : Book) (log batch : List Entry) (may : List Book) (op
 
 module _ {S : Type 0} (g : Ghosts S) (safe : WorldIsSafe rules) (b : Book) (sound : IsSound rules b) where
   -- a life moves the store before it commits anything; where nothing is left to move, this makes nothing of the world
-  walked : (limit : ℕ) (log : List Entry) (may : List Book) (rs : List world.Receipt) (l : Life S) → Contains may (after_log rules b log) → AreGathered l → IsAnswered g (after_log rules b log) l
-      → Walk limit b (length log) log may rs (seen l).kept (seen l).hand (seen l).receipts
-  walked limit log may rs (Lived conn first qs last bs ds) has some h =
+  walked_on : (limit : ℕ) (log : List Entry) (may : List Book) (rs : List world.Receipt) (bs : List (List Taken)) (ds : List Done) → Contains may (after_log rules b log) → AllByRecursion IsTakenAtOnce bs
+      → AreAnswers 0 (after_log rules b log) bs ds → Walk limit b (length log) log may rs (kept_of bs ds) (in_hand bs ds) (receipts_told bs ds)
+  walked_on limit log may rs bs ds has some h =
       let its = walk b (length log) 0 log may rs bs ds (omega arith) has some h in
       let moved : at b [] log [] may (length log) rs Idle ≡ migrated rules (under limit b [] log [] may (length log) rs Idle) Idle = rw (same_number (length log)) refl in
       record {
@@ -344,6 +344,11 @@ module _ {S : Type 0} (g : Ghosts S) (safe : WorldIsSafe rules) (b : Book) (soun
         has = its.has;
         whole = its.whole;
       }
+
+  walked : (limit : ℕ) (log : List Entry) (may : List Book) (rs : List world.Receipt) (l : Life S) → Contains may (after_log rules b log) → AreGathered l → IsAnswered g (after_log rules b log) l
+      → Walk limit b (length log) log may rs (seen l).kept (seen l).hand (seen l).receipts
+  walked limit log may rs (Lived conn first qs last bs ds) has some h = walked_on limit log may rs bs ds has some h
+  walked limit log may rs (Served conn first qs last bs ds) has some h = walked_on limit log may rs bs ds has some h
   walked limit log may rs (Refused conn f back) has some h = none_more b (length log) limit log may rs has
 
   -- of what a life leaves

@@ -14,9 +14,17 @@ use Rattle.flow_view.specs.declared.fault.ViewFault.{ViewFault}
 use Rattle.flow_view.specs.declared.fault.ViewFault.TheVariants as fault
 use Rattle.flow_commit.specs.Keeping.{Keeping, rules, IsFit, IsUp, IsWell, KeepsBook, HasKept, HasRefused, IsUnknown, commands_of, receipts_of}
 use Rattle.flow_commit.specs.Committing.{HasNoRoom, IsFor, NumbersRunOut, WasCutOff, WasGivenUp}
+use Rattle.flow_commit.specs.declared.outcome.Outcome.{Outcome}
 use Rattle.flow_commit.specs.declared.outcome.Outcome.TheVariants as outcomes
 use Rattle.flow_engine.specs.declared.done.Done.{Done}
 use Rattle.flow_engine.specs.declared.done.Done.TheVariants as done
+
+-- what became of a batch, by how its commit has ended
+abbrev pub done_of : Outcome → Done
+done_of (outcomes.Kept receipts stamp) = done.Kept receipts
+done_of (outcomes.NotApplied back f) = done.NotApplied f
+done_of (outcomes.Unknown back f) = done.Unknown
+done_of (outcomes.Halted back) = done.Halted
 
 -- What one commit has done, by what became of the batch.
 abbrev pub HasDone : {S : Type 0} → Ghosts S → Keeping S → Keeping S → Book → List Taken → Done → Type 0

@@ -9,3 +9,4 @@ pub mod Following
 pub mod GivingUp
 pub mod Counting
 pub mod Living
+pub mod Boarding

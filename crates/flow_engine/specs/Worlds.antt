@@ -12,7 +12,7 @@ use Rattle.flow_model.specs.World.{World, Step, Crash, Reopen, Comes, IsSafe, ba
 use Rattle.flow_model.specs.World as world
 use Rattle.flow_commit.specs.Keeping.{IsWell, rules}
 use Rattle.flow_recover.specs.Recovering.{HoldBook}
-use Rattle.flow_engine.specs.Headline.{Life, Lived, Refused, seen, Begins, Finds, Lives}
+use Rattle.flow_engine.specs.Headline.{Life, Lived, Served, Refused, seen, Begins, Finds, Lives}
 
 -- a receipt of a life that was opened behind so many commands, as the world gives it
 abbrev pub given_at : ℕ → Receipt → world.Receipt
@@ -24,6 +24,7 @@ IsTakenAtOnce batch = (1 ≤ length batch) × (length batch ≤ batch_limit)
 
 abbrev pub AreGathered : {S : Type 0} → Life S → Type 0
 AreGathered (Lived conn first positions last bs ds) = AllByRecursion IsTakenAtOnce bs
+AreGathered (Served conn first positions last bs ds) = AllByRecursion IsTakenAtOnce bs
 AreGathered (Refused conn f back) = Unit {0}
 
 module _ {S : Type 0} (g : Ghosts S) where

@@ -1,6 +1,6 @@
 //! The headline, as laws of every store.
-ghost use Rattle.flow_engine.specs.Headline.{CallsJoin, Headline, OpenedBegin};
-ghost use Rattle.flow_engine.specs.Stopping.{StopContinues};
+ghost use Rattle.flow_engine.specs.Headline.{BoardedCallsJoin, BoardsAreCalls, CallsJoin, CommitsAreCalls, DrivenAreBoarded, Headline, OpenedBegin, VerifiesAreCalls};
+ghost use Rattle.flow_engine.specs.Stopping.{CloseContinues, StopContinues};
 ghost use Rattle.flow_engine.specs.Worlds.{LivesAreSteps};
 
 use flow_world::world_is_safe;
@@ -26,10 +26,29 @@ pub fn calls_join<S: Alter>()
     ensures { CallsJoin S.Store }
 {}
 
+/// So were those that were answered with boards in between. Batches that were driven are such calls.
+pub fn boarded_calls_join<S: Alter>()
+    ensures join { BoardedCallsJoin S.Store }
+    ensures driven { DrivenAreBoarded S.Store }
+{}
+
+/// What a commit says is a part of a life, and so is what a board or a verify says, by which no batch is answered.
+pub fn calls_are_parts<S: Alter>()
+    ensures commit { CommitsAreCalls S.Store }
+    ensures board { BoardsAreCalls S.Store }
+    ensures verify { VerifiesAreCalls S.Store }
+{}
+
 /// What a stop leaves of the two files of a store is a database that the store allows, so a life over them continues the one that
 /// was stopped.
 pub fn stopped_files_continue<D: Disk>()
     ensures { StopContinues D.Disk }
+{}
+
+/// The two files that closing a connection gave back hold what was kept, as they are and as a stop may leave them, so a life over them
+/// continues the one that was closed. `Connection::close` is that call, and gives the files to nobody.
+pub fn closed_files_continue<D: Disk>()
+    ensures { CloseContinues D.Disk }
 {}
 
 /// The lives of an engine are steps of the world of `flow_world`, and each ends in a world that is safe: what a stop may leave on

@@ -1,3 +1,4 @@
+pub mod Living
 pub mod Posted
 pub mod Served
 pub mod Serving

@@ -16,7 +16,7 @@ use Rattle.flow_hub.proofs.Growing.{prefix_self, prefix_trans}
 use Rattle.flow_engine.specs.Driving.{receipts_in}
 use Rattle.flow_queues.specs.declared.refused.Refused.{Refused}
 use Rattle.flow_base.specs.declared.submission.Taken.{Taken}
-use Rattle.flow_serve.specs.Boarding.{IsStill}
+use Rattle.flow_engine.specs.Boarding.{IsStill}
 use Rattle.flow_serve.specs.Serving.{HasAnswered}
 use Rattle.flow_serve.specs.Posting.{ArePosted, Posts, WasBoard}
 

@@ -7,19 +7,18 @@ use Rattle.sqlite_trees.specs.declared.store.Store.{Ghosts}
 use Rattle.flow_base.specs.declared.code.Code.TheVariants as code
 use Rattle.flow_base.specs.declared.command.Command.{Command}
 use Rattle.flow_model.specs.Book.{Book}
-use Rattle.flow_model.specs.Apply.{after}
 use Rattle.flow_base.specs.declared.submission.Taken.{Taken}
 use Rattle.flow_queues.specs.declared.refused.Refused.{Refused}
 use Rattle.flow_queues.specs.Refusing.{refused_by}
 use Rattle.flow_tables.specs.Faults.{Since}
 use Rattle.flow_tables.specs.Owned.{state_of}
 use Rattle.flow_tables.proofs.Stopping.{hindering_after, since_self, since_then}
-use Rattle.flow_commit.specs.Keeping.{Keeping, rules, IsFit, IsUp, KeepsBook, kept_book}
-use Rattle.flow_commit.proofs.Following.{keeps_behind, up_before}
+use Rattle.flow_commit.specs.Keeping.{Keeping, IsFit, IsUp, KeepsBook, kept_book}
+use Rattle.flow_commit.proofs.Following.{up_before}
 use Rattle.flow_commit.proofs.Sealing.{down_on, shut_on}
 use Rattle.flow_engine.specs.declared.done.Done.{Done}
-use Rattle.flow_serve.specs.Boarding.{IsStill}
-use Rattle.flow_engine.specs.Driving.{NotesAll, all_halted, has_unknown, kept_of, receipts_in, receipts_told}
+use Rattle.flow_engine.specs.Boarding.{IsStill, PassesBoarded}
+use Rattle.flow_engine.specs.Driving.{NotesAll, all_halted, has_unknown, receipts_in, receipts_told}
 use Rattle.flow_engine.specs.Counting.{IsCounted}
 use Rattle.flow_engine.specs.GivingUp.{AreGivenUp, WasRefused}
 use Rattle.flow_base.specs.declared.task.Task.{Task}
@@ -27,7 +26,8 @@ use Rattle.flow_serve.specs.Posting.{HasTurn, HasTurns}
 use Rattle.flow_serve.specs.Serving.{HasAnswered, HasServed, IsBatch, ServesBoarded, TurnsAway, codes_in, codes_told}
 use Rattle.flow_serve.proofs.Posted.{answered_later}
 use Rattle.flow_serve.proofs.Turning.{no_turns, turns_more, turns_on}
-use Rattle.flow_engine.proofs.Gathering.{off, gathered_more, all_halted_more, replies_told}
+use Rattle.flow_engine.proofs.Boarding.{one_passed, serves_by, stands_on, still_behind, still_self}
+use Rattle.flow_engine.proofs.Gathering.{off, gathered_more, all_halted_more}
 use Rattle.flow_engine.proofs.Counting.{counted_still, counted_then, none_counted}
 use Rattle.flow_engine.proofs.GivingUp.{all_given_up_on, given_up_then}
 use Rattle.flow_engine.proofs.OneMore.{Stands, WasOwn, book_left, nothing_yet, one_more, one_noted, own_more}
@@ -38,8 +38,10 @@ pub record Served {S : Type 0} (g : Ghosts S) (old now : Keeping S) (was told : 
   pub many : length batches ≡ n
   pub dones : List Done
   pub sizes : All IsBatch batches
+  pub opened : now.stored.opened ≡ old.stored.opened
   pub fit : IsFit g now → IsFit g old
   pub stands : IsFit g now → (b : Book) → KeepsBook g old b → old.halted ≡ false → Stands g old b now batches dones
+  pub passes : IsFit g now → (b : Book) → KeepsBook g old b → old.halted ≡ false → PassesBoarded g old now b batches dones
   pub halted : old.halted ≡ true → now ≡ old
   pub later : old.halted ≡ true → dones ≡ all_halted batches
   pub count : length dones ≡ length batches
@@ -58,8 +60,10 @@ none_served g old was = record {
   many = refl;
   dones = [];
   sizes = All-nil IsBatch;
+  opened = refl;
   fit = λ h. h;
   stands = λ h b keeps goes. nothing_yet g old b keeps goes;
+  passes = λ h b keeps goes. still_self g old;
   halted = λ _. refl;
   later = λ _. refl;
   count = refl;
@@ -88,22 +92,16 @@ module _ {S : Type 0} (g : Ghosts S) (old mid new : Keeping S) where
   refused_on still fit k cs (inr (inr down)) = inr (inr (down_on g old.stored mid.stored new.stored still.stored fit down))
 
   module _ (was told now : List Refused) (n : ℕ) (served : Served g old mid was told n) where
-    -- a board over an engine that goes on
-    stands_on : IsStill g mid new → mid.halted ≡ false → IsFit g new → (b : Book) → Stands g old b mid served.batches served.dones → Stands g old b new served.batches served.dones
-    stands_on still goes fit b s =
-        let book = keeps_behind g mid.stored new.stored still.stored fit (after rules b (kept_of served.batches served.dones)) (s.1.book (sym s.1.halted ∙ goes)) in (
-          s.0,
-          record { halted = still.halted ∙ s.1.halted; book = λ _. book; counts = λ known. still.kept ∙ s.1.counts known; still = λ _. book; stops = λ db may. inl (book.stops db may) },
-        )
-
     goes_still : IsStill g mid new → now ≡ told → mid.halted ≡ false → Served g old new was now n
     goes_still still same goes = record {
       batches = served.batches;
       many = served.many;
       dones = served.dones;
       sizes = served.sizes;
+      opened = still.follows.0 ∙ served.opened;
       fit = λ h. served.fit (still.follows.1 h);
-      stands = λ h b keeps on. stands_on still goes h b (served.stands (still.follows.1 h) b keeps on);
+      stands = λ h b keeps on. stands_on g old mid new b served.batches served.dones still goes h (served.stands (still.follows.1 h) b keeps on);
+      passes = λ h b keeps on. still_behind g old mid new b served.batches served.dones (served.passes (still.follows.1 h) b keeps on) still;
       halted = λ h. off (sym (ap (λ (k : Keeping S). k.halted) (served.halted h) ∙ h) ∙ goes);
       later = served.later;
       count = served.count;
@@ -140,8 +138,10 @@ module _ {S : Type 0} (g : Ghosts S) (old mid new : Keeping S) where
               served.many in omega (arith, long, before));
           dones = ds ++ one.ended ∷ [];
           sizes = All-append IsBatch bs (batch ∷ []) served.sizes (All-cons IsBatch batch [] size (All-nil IsBatch));
+          opened = one.opened ∙ served.opened;
           fit = λ h. served.fit (one.fit h);
           stands = λ h b keeps goes. one_more g old b mid new bs ds batch (served.stands (one.fit h) b keeps goes) one.ended (one.does h) one.halted one.later (has_unknown ds) refl;
+          passes = λ h b keeps goes. one_passed g old mid new b bs ds batch (served.stands (one.fit h) b keeps goes) (served.passes (one.fit h) b keeps goes) one.ended (one.does h) (one.cause h) one.halted one.later (has_unknown ds) refl;
           halted = λ h. one.halted (before h) ∙ served.halted h;
           later = λ h. ap (λ x. ds ++ x ∷ []) (one.later (before h)) ∙ all_halted_more bs ds batch (served.later h);
           count = length-append ds (one.ended ∷ []) ∙ ap (λ n. n + 1) served.count ∙ sym (length-append bs (batch ∷ []));
@@ -172,8 +172,12 @@ module _ {S : Type 0} (g : Ghosts S) (old now : Keeping S) (was told : List Refu
         batches = bs;
         dones = ds;
         sizes = served.sizes;
-        serves = λ fit b keeps goes. (let s = served.stands fit b keeps goes in record { answers = s.0; replies = replies_told old.kept b bs ds s.0; leads = s.1 });
-        still = λ h. (served.halted h, served.later h);
+        runs = record {
+          opened = served.opened;
+          fit = served.fit;
+          serves = λ fit b keeps goes. serves_by g old now b bs ds (served.stands fit b keeps goes) (served.passes fit b keeps goes);
+          still = λ h. (served.halted h, served.later h);
+        };
         noted = served.noted;
         log = served.log;
         codes = served.codes ∙ sym (append-nil (was ++ codes_told bs ds));
@@ -189,8 +193,7 @@ module _ {S : Type 0} (g : Ghosts S) (old now : Keeping S) (was told : List Refu
         batches = served.batches;
         dones = served.dones;
         sizes = served.sizes;
-        serves = served.serves;
-        still = served.still;
+        runs = served.runs;
         noted = served.noted;
         log = served.log;
         codes = turns ∙ ap (λ l. l ++ map (refused_by code.Halted) waiting) (served.codes ∙ append-nil front);

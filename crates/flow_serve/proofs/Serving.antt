@@ -12,18 +12,13 @@ use Rattle.flow_view.specs.Codes.{view_fault_code}
 use Rattle.flow_view.specs.declared.fault.ViewFault.{ViewFault}
 use Rattle.flow_view.specs.declared.fault.ViewFault.TheVariants as view_fault
 use Rattle.flow_model.specs.Book.{Book}
-use Rattle.flow_tables.specs.Owned as tables
-use Rattle.flow_commit.proofs.Following as following
 use Rattle.flow_commit.specs.Accounts.{Accounted, Based, HandedIn, handed_in}
-use Rattle.flow_commit.specs.Keeping.{Keeping, IsFit, IsUp, account_of}
+use Rattle.flow_commit.specs.Keeping.{Keeping, account_of}
 use Rattle.flow_hub.specs.declared.known.HubFacts.{HubFacts}
 use Rattle.flow_queues.specs.declared.refused.Refused.{Refused}
 use Rattle.flow_queues.specs.Refusing.{refused_by}
 use Rattle.flow_hub.specs.Knowing.{IsOver}
 use Rattle.flow_hub.specs.Publishing.{Together}
-use Rattle.flow_engine.specs.Answering.{Follows}
-use Rattle.flow_serve.specs.Boarding.{IsStill}
-use Rattle.flow_engine.proofs.OneMore.{WasOwn, own_more}
 use Rattle.flow_serve.specs.Serving.{IsGivenUp, GivesUp, TurnsAway, StopsAt, StopsFor}
 
 ---- What was answered by a code
@@ -129,47 +124,3 @@ module _ {S : Type 0} where
   pub same_base : (g : Ghosts S) (old new : Keeping S) → new.found ≡ old.found → new.stored.opened ≡ old.stored.opened → (account_of g new).base ≡ (account_of g old).base
   same_base g old new found opened =
       ap (λ (b : Book). based b (handed_in (state g new.stored.opened))) found ∙ ap (λ (h : Held S). based old.found (handed_in (state g h))) opened
-
-  pub follows_self : (g : Ghosts S) (k : Keeping S) → Follows g k k
-  follows_self g k = (refl, λ fit. fit)
-
-  pub follows_then : (g : Ghosts S) (a b c : Keeping S) → Follows g a b → Follows g b c → Follows g a c
-  follows_then g a b c p q = (q.0 ∙ p.0, λ fit. p.1 (q.1 fit))
-
-  pub still_self : (g : Ghosts S) (k : Keeping S) → IsStill g k k
-  still_self g k = record {
-    log = refl;
-    found = refl;
-    halted = refl;
-    kept = refl;
-    nothing = λ _. refl;
-    follows = follows_self g k;
-    stored = following.follows_self g k.stored;
-    own = λ _ _. inl refl;
-  }
-
-  -- by what making a board says
-  pub board_still : (g : Ghosts S) (old new : Keeping S) → (new.halted ≡ old.halted) × (new.kept ≡ old.kept) × (new.found ≡ old.found) × (new.log ≡ old.log) → tables.Follows g old.stored new.stored → (IsFit g new → IsFit g old)
-      → (IsFit g new → IsUp g old → WasOwn g old new) → (old.halted ≡ true → new ≡ old) → IsStill g old new
-  board_still g old new same stored fit own nothing = record {
-    log = same.3;
-    found = same.2;
-    halted = same.0;
-    kept = same.1;
-    nothing = nothing;
-    follows = (stored.0, fit);
-    stored = stored;
-    own = own;
-  }
-
-  pub still_then : (g : Ghosts S) (a b c : Keeping S) → IsStill g a b → IsStill g b c → IsStill g a c
-  still_then g a b c p q = record {
-    log = q.log ∙ p.log;
-    found = q.found ∙ p.found;
-    halted = q.halted ∙ p.halted;
-    kept = q.kept ∙ p.kept;
-    nothing = λ h. q.nothing (p.halted ∙ h) ∙ p.nothing h;
-    follows = follows_then g a b c p.follows q.follows;
-    stored = following.follows_then g a.stored b.stored c.stored p.stored q.stored;
-    own = λ fit up. own_more g a b c up (p.own (q.follows.1 fit) up) (q.own fit);
-  }

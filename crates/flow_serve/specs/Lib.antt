@@ -1,3 +1,3 @@
-pub mod Boarding
+pub mod Living
 pub mod Posting
 pub mod Serving

@@ -5,17 +5,17 @@ use Rattle.flow_base.specs.declared.code.Code.TheVariants as code
 use Rattle.flow_base.specs.declared.fault.Fault.{Fault}
 use Rattle.flow_base.specs.declared.fault.Fault.TheVariants as fault
 use Rattle.flow_model.specs.Book.{Book}
-use Rattle.flow_model.specs.Apply.{replies}
 use Rattle.flow_base.specs.declared.submission.Taken.{Taken}
 use Rattle.flow_view.specs.Codes.{view_fault_code}
-use Rattle.flow_commit.specs.Keeping.{Keeping, rules, IsFit, IsUp, KeepsBook, kept_book}
+use Rattle.flow_commit.specs.Keeping.{Keeping, IsFit, IsUp, KeepsBook, kept_book}
 use Rattle.flow_commit.specs.Committing.{HasGoneOn}
 use Rattle.flow_queues.specs.declared.refused.Refused.{Refused}
 use Rattle.flow_queues.specs.Refusing.{refused_by}
 use Rattle.flow_base.specs.declared.task.Task.{Task}
 use Rattle.flow_engine.specs.declared.done.Done.{Done}
 use Rattle.flow_engine.specs.declared.done.Done.TheVariants as done
-use Rattle.flow_engine.specs.Driving.{HasDone, IsNoted, AreAnswers, NotesAll, LeadsTo, all_halted, gathered, has_unknown, kept_of, in_hand, receipts_in, receipts_told, replies_of}
+use Rattle.flow_engine.specs.Boarding.{RunsBoarded}
+use Rattle.flow_engine.specs.Driving.{HasDone, IsDoneFor, IsNoted, NotesAll, gathered, receipts_in, receipts_told}
 use Rattle.flow_engine.specs.Counting.{IsCounted}
 use Rattle.flow_engine.specs.GivingUp.{AreGivenUp, IsGivenUpFor, WasRefused}
 use Rattle.flow_serve.specs.Posting.{HasTurns}
@@ -87,8 +87,10 @@ codes_told batches dones = gathered codes_in batches dones
 -- for that.
 pub record HasAnswered {S : Type 0} (g : Ghosts S) (old new : Keeping S) (was now : List Refused) (batch : List Taken) : Type 0 where
   pub ended : Done
+  pub opened : new.stored.opened ≡ old.stored.opened
   pub fit : IsFit g new → IsFit g old
   pub does : IsFit g new → (b : Book) → KeepsBook g old b → HasDone g old new b batch ended
+  pub cause : IsFit g new → (b : Book) → KeepsBook g old b → IsDoneFor g old new b batch ended
   pub halted : old.halted ≡ true → new ≡ old
   pub later : old.halted ≡ true → ended ≡ done.Halted
   pub noted : IsNoted old new batch ended
@@ -98,14 +100,6 @@ pub record HasAnswered {S : Type 0} (g : Ghosts S) (old new : Keeping S) (was no
   pub own : IsFit g new → IsUp g old → (new ≡ old) ⊎ KeepsBook g old (kept_book g old)
   pub on : IsFit g new → HasGoneOn g old new
   pub why : IsFit g new → IsGivenUpFor (WasRefused g old new) (kept_book g old) batch ended
-
--- Batches that were taken and answered one after the other, over an engine that kept this book: each answer is over the book that the
--- batches before it left, and the engine is where they lead, which says what a stop leaves. What was done between two of them keeps all
--- this.
-pub record Serves {S : Type 0} (g : Ghosts S) (old new : Keeping S) (b : Book) (batches : List (List Taken)) (dones : List Done) : Type 0 where
-  pub answers : AreAnswers old.kept b batches dones
-  pub replies : replies_of batches dones ≡ replies rules b (kept_of batches dones)
-  pub leads : LeadsTo g old new b (has_unknown dones) (kept_of batches dones) (in_hand batches dones)
 
 -- so many are committed together
 abbrev pub IsBatch : List Taken → Type 0
@@ -119,8 +113,8 @@ pub record HasServed {S : Type 0} (g : Ghosts S) (old new : Keeping S) (was now 
   pub batches : List (List Taken)
   pub dones : List Done
   pub sizes : All IsBatch batches
-  pub serves : IsFit g new → (b : Book) → KeepsBook g old b → old.halted ≡ false → Serves g old new b batches dones
-  pub still : old.halted ≡ true → (new ≡ old) × (dones ≡ all_halted batches)
+  -- they are a part of a life, as the headline has it
+  pub runs : RunsBoarded g old new batches dones
   pub noted : old.halted ≡ false → NotesAll old new batches dones
   pub log : new.log ≡ old.log ++ receipts_told batches dones
   pub codes : now ≡ was ++ codes_told batches dones ++ map (refused_by code.Halted) waiting

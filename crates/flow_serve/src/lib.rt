@@ -2,6 +2,7 @@
 //! each batch what is to be done outside is posted.
 #![tactic(auto)]
 
+pub mod life;
 mod server;
 
 pub use server::serve;

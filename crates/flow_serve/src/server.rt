@@ -4,7 +4,7 @@ ghost use Rattle.std.specs.Vec.{vec_capacity};
 ghost use Rattle.flow_base.specs.declared.submission.Taken.{Taken as ATaken};
 ghost use Rattle.flow_commit.specs.Keeping.{account_of};
 ghost use Rattle.flow_hub.specs.Knowing.{IsBefore};
-ghost use Rattle.flow_serve.specs.Boarding.{IsStill};
+ghost use Rattle.flow_engine.specs.Boarding.{IsStill};
 ghost use Rattle.flow_serve.specs.Posting.{HasNoBoard, HasTurn, Posts, PostsOne};
 ghost use Rattle.flow_hub.specs.Publishing.{InHand, IsDone, Together};
 ghost use Rattle.flow_engine.specs.Answering.{Follows};

@@ -203,10 +203,6 @@ served_on g tells old now k l waiting none t h p = record {
   posts = subst (λ (x : HubFacts). Posts g tells now x.posted l.posted) none p;
 }
 
--- what has kept nothing and what was told nothing stand together
-pub together_new : {S : Type 0} (g : Ghosts S) (old : Keeping S) (k : HubFacts) → old.log ≡ [] → k ≡ nothing → Together (account_of g old) k
-together_new g old k fresh none = subst (λ (x : HubFacts). Together (account_of g old) x) (sym none) (record { log = fresh; over = tt; none = refl })
-
 -- it has served such a hub to the end
 pub served_all : {S : Type 0} (g : Ghosts S) (old now : Keeping S) (k l : HubFacts) → k ≡ nothing → GivesUp k.refused l.refused → HasServed g old now k.refused l.refused [] → HasServedAll g old now
 served_all g old now k l none gives h = record {

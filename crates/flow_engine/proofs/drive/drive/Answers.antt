@@ -46,7 +46,7 @@ returns-clause-well g c b well l m e = after_well b l well
 pub returns-clause-leaves : goal.returns-clause-leaves
 returns-clause-leaves g c fit b well keeps goes_on =
     left_well g.S.Store c.args.engine.now c.loop-batch.engine b c.args.batches.items c.loop-batch.dones.items well
-    (returns-clause-drives g c fit b keeps goes_on)
+    (returns-clause-drives g c fit b keeps goes_on).leads
 
 pub returns-clause-given_up : goal.returns-clause-given_up
 returns-clause-given_up g c =

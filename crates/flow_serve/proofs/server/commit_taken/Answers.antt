@@ -7,7 +7,7 @@ use Rattle.flow_queues.specs.Refusing.{refused_by}
 use Rattle.flow_hub.specs.Publishing.{InHand}
 use Rattle.flow_hub.proofs.Serving.{receipts_answer, refused_together}
 use Rattle.flow_commit.specs.Keeping.{Keeping, account_of}
-use Rattle.flow_commit.specs.Committing.{IsRefusedFor}
+use Rattle.flow_commit.specs.Committing.{IsFor, IsRefusedFor}
 use Rattle.flow_commit.specs.declared.outcome.Outcome.TheVariants as outcomes
 use Rattle.flow_engine.specs.declared.done.Done.TheVariants as dones
 use Rattle.flow_engine.proofs.GivingUp.{refused_done}
@@ -51,8 +51,10 @@ returns-in-Kept-clause-answered g c =
     let noted = c.in-Kept.ensures.noted in
     record {
       ended = dones.Kept c.in-Kept.receipts;
+      opened = c.commit.ensures.same;
       fit = c.commit.ensures.fit;
       does = λ fit b keeps. (let h = c.in-Kept.ensures.commits fit b keeps in (h.0, h.2));
+      cause = λ fit b keeps. tt;
       halted = c.commit.ensures.halted;
       later = λ h. absurd (let clash = c.in-Kept.ensures.later h in cc);
       noted = (noted.0, noted.1, noted.2);
@@ -72,8 +74,11 @@ returns-in-NotApplied-clause-answered g c =
     let same = c.into_taken.ensures.same ∙ noted.3 in
     record {
       ended = dones.NotApplied fault;
+      opened = c.commit.ensures.same;
       fit = c.commit.ensures.fit;
       does = λ fit b keeps. (let h = c.in-NotApplied.ensures.commits fit b keeps in (h.0, h.2));
+      cause = λ fit b keeps. subst (λ (batch : List Taken). IsFor g.S.Store c.args.engine.now c.commit.new.self b c.args.batch (outcomes.NotApplied batch fault)) noted.3
+          (c.in-NotApplied.ensures.cause fit b keeps);
       halted = c.commit.ensures.halted;
       later = λ h. absurd (let clash = c.in-NotApplied.ensures.later h in cc);
       noted = (noted.0, noted.1);
@@ -93,8 +98,10 @@ returns-in-Unknown-clause-answered g c =
     let same = c.into_taken-in-Unknown.ensures.same ∙ noted.3 in
     record {
       ended = dones.Unknown;
+      opened = c.commit.ensures.same;
       fit = c.commit.ensures.fit;
       does = λ fit b keeps. (let h = c.in-Unknown.ensures.commits fit b keeps in (h.0, h.2));
+      cause = λ fit b keeps. (c.in-Unknown._fault, c.in-Unknown.ensures.cause fit b keeps);
       halted = c.commit.ensures.halted;
       later = λ h. absurd (let clash = c.in-Unknown.ensures.later h in cc);
       noted = (noted.0, noted.1);
@@ -112,8 +119,10 @@ returns-in-Halted-clause-answered g c =
     let same = c.into_taken-in-Halted.ensures.same ∙ noted.2 in
     record {
       ended = dones.Halted;
+      opened = c.commit.ensures.same;
       fit = c.commit.ensures.fit;
       does = λ fit b keeps. (let h = c.in-Halted.ensures.commits fit b keeps in (h.0, h.2));
+      cause = λ fit b keeps. tt;
       halted = c.commit.ensures.halted;
       later = λ _. refl;
       noted = (noted.0, noted.1);

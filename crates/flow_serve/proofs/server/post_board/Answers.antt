@@ -1,7 +1,7 @@
 use Rattle.std.proofs.Common.{sym, ◌∙◌}
 use Rattle.flow_hub.proofs.Growing.{before_trans}
 use Rattle.flow_serve.proofs.Posted.{later_self, posts_still, posts_then, still_later}
-use Rattle.flow_serve.proofs.Serving.{still_then}
+use Rattle.flow_engine.proofs.Boarding.{still_then}
 use Rattle.flow_serve.proofs.Turning.{refused_first, turn_again, turn_of, turn_skipped}
 use Rattle.flow_serve.proofs.server.post_board.Goals as goal
 

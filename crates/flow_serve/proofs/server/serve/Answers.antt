@@ -3,7 +3,8 @@ use Rattle.flow_commit.specs.Keeping.{account_of}
 use Rattle.flow_hub.proofs.Growing.{before_trans}
 use Rattle.flow_serve.proofs.Posted.{later_self, posts_none, posts_still}
 use Rattle.flow_serve.proofs.Served.{boarded_behind, served_behind, unboarded, unserved}
-use Rattle.flow_serve.proofs.Serving.{follows_self, together_still, turned_behind}
+use Rattle.flow_engine.proofs.Boarding.{follows_self}
+use Rattle.flow_serve.proofs.Serving.{together_still, turned_behind}
 use Rattle.flow_serve.proofs.server.serve.Goals as goal
 
 -- a batch has halted the engine, and what waits is turned away

@@ -8,7 +8,8 @@ use Rattle.flow_hub.proofs.Growing.{before_trans}
 use Rattle.flow_serve.specs.Serving.{GivesUp, HasAnswered, IsBatch, StopsAt}
 use Rattle.flow_serve.proofs.Posted.{answered_later, later_self, posts_still, posts_then, still_later}
 use Rattle.flow_serve.proofs.Served.{Served, boarded_done, boarded_first, boarded_last, boarded_more, has_served, served_more}
-use Rattle.flow_serve.proofs.Serving.{follows_then, gives_none, gives_then, stops_behind, together_still}
+use Rattle.flow_engine.proofs.Boarding.{follows_then}
+use Rattle.flow_serve.proofs.Serving.{gives_none, gives_then, stops_behind, together_still}
 use Rattle.flow_serve.proofs.server.serve_all.Goals as goal
 
 -- the batch that stops the engine is behind those that didn't

@@ -3,7 +3,8 @@ use Rattle.flow_hub.proofs.Growing.{same_part}
 use Rattle.flow_hub.proofs.Serving.{boarded_together, is_fresh, same_history}
 use Rattle.flow_commit.specs.Keeping.{account_of}
 use Rattle.flow_serve.proofs.Posted.{board_was, posts_none, posts_one}
-use Rattle.flow_serve.proofs.Serving.{board_still, same_base}
+use Rattle.flow_engine.proofs.Boarding.{board_still}
+use Rattle.flow_serve.proofs.Serving.{same_base}
 use Rattle.flow_serve.proofs.Turning.{no_memory_board}
 use Rattle.flow_serve.proofs.server.try_board.Goals as goal
 

@@ -1,5 +1,6 @@
 use Rattle.std.proofs.Common.{[]}
-use Rattle.flow_work.proofs.Served.{ends_serving, served_all, served_on, together_new}
+use Rattle.flow_serve.proofs.Living.{together_new}
+use Rattle.flow_work.proofs.Served.{ends_serving, served_all, served_on}
 use Rattle.flow_work.proofs.running.serve_new.Goals as goal
 
 pub serve-requires-clause-together : goal.serve-requires-clause-together

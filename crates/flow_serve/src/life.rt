@@ -1,0 +1,67 @@
+//! A life of an engine that serves a hub, as the headline has it.
+ghost use Rattle.std.specs.Prelude.{◌≡◌, ◌≤◌, [], IfErr, IfOk};
+ghost use Rattle.sqlite.specs.Held.{state};
+ghost use Rattle.sqlite.specs.State.{HasCleanDisk};
+ghost use Rattle.flow_tables.specs.Owned.{state_of};
+ghost use Rattle.flow_hub.specs.Knowing.{nothing};
+ghost use Rattle.flow_engine.specs.Headline.{IsLife, Refused};
+ghost use Rattle.flow_serve.specs.Living.{HasLivedServing, ServesHub};
+
+use crate::server::serve;
+use flow_base::fault::Fault;
+use flow_engine::engine::Engine;
+use flow_hub::publisher::Publisher;
+use flow_hub::seats::Room;
+use flow_settings::settings::Settings;
+use flow_timers::Clock;
+use sqlite::{Alter, Connection};
+use std::alloc::Global;
+use std::sync::Wait;
+use std::time;
+
+/// The engine behind all that it has served, and how serving has ended.
+fn served<S: Alter, B: Room, R: Wait + time::Clock, C: Clock>(
+    engine: Engine<S>,
+    rt: &R,
+    publisher: &mut Publisher<B>,
+    clock: &C,
+    most: usize,
+) -> (Engine<S>, Result<(), Fault>)
+    requires fresh { engine.log ≡ [] }
+    requires none { publisher.old ≡ nothing }
+    requires most { (1 ≤ most) × (most ≤ 64) }
+    ensures { ServesHub S.Store engine result.0 publisher.new.history }
+{
+    let mut engine = engine;
+    let outcome = serve(&mut engine, rt, publisher, clock, most);
+    (engine, outcome)
+}
+
+/// Opens an engine over a store, asks it where its runs stand, and serves a hub to whose publisher nothing is known yet: a life, since
+/// these calls say all that the headline asks of one. The receipts that the hub is told are those of this life.
+///
+/// # Failure
+/// As of `Engine::open`, and then the hub isn't served. How serving has ended is told beside the engine.
+pub fn live<S: Alter, B: Room, R: Wait + time::Clock, C: Clock>(
+    alloc: Global,
+    conn: Connection<S>,
+    settings: Settings,
+    rt: &R,
+    publisher: &mut Publisher<B>,
+    clock: &C,
+    most: usize,
+) -> Result<(Engine<S>, Result<(), Fault>), (Fault, Connection<S>)>
+    requires none { publisher.old ≡ nothing }
+    requires most { (1 ≤ most) × (most ≤ 64) }
+    ensures lived { IfOk result (λ r. HasCleanDisk (state_of S.Store r.0.stored)
+        → HasLivedServing S.Store conn r.0 publisher.new.history) }
+    ensures early { IfErr result (λ e. HasCleanDisk (state S.Store e.1) → IsLife S.Store (Refused conn e.0 e.1)) }
+{
+    match Engine::open(alloc, conn, settings) {
+        Ok(engine) => {
+            let _found = engine.found();
+            Ok(served(engine, rt, publisher, clock, most))
+        }
+        Err((fault, conn)) => Err((fault, conn)),
+    }
+}
