@@ -172,6 +172,47 @@ impl Most {
     }
 }
 
+/// How many commands are applied together at most: 1 to 64.
+#[derive(Clone, Copy, Debug, PartialEq, Eq)]
+pub struct BatchSize {
+    number: u64,
+}
+
+impl Model for BatchSize {
+    ghost use Rattle.std.specs.Prelude.{ℕ, ◌≤◌};
+
+    ghost Value = { ℕ };
+
+    ghost view = { λ s. s.number };
+
+    ghost invariant = { λ s. (1 ≤ s.number) × (s.number ≤ 64) };
+
+    ghost inverse = { λ n. record { number = n } };
+}
+
+impl BatchSize {
+    /// This size, from 1 to 64.
+    pub fn new(number: u64) -> Option<BatchSize>
+        ensures valid { IsSome result ↔ ((1 ≤ number) × (number ≤ 64)) }
+        ensures value { IfSome result (λ s. s ≡ number) }
+    {
+        if number >= 1 && number <= 64 {
+            Some(BatchSize { number })
+        } else {
+            None
+        }
+    }
+
+    /// How many commands a batch has, 1 to 64.
+    pub fn get(self) -> u64
+        ensures value { result ≡ self }
+        ensures first { 1 ≤ result }
+        ensures last { result ≤ 64 }
+    {
+        self.number
+    }
+}
+
 /// Milliseconds, from 0 to [`LAST_MOMENT`].
 #[derive(Clone, Copy, Debug, PartialEq, Eq)]
 pub struct Moment {

@@ -1,5 +1,5 @@
 //! Lines whose commands are applied together.
-ghost use Rattle.std.specs.Prelude.{◌≡◌, ◌≤◌, ◌↔◌, ◌+◌, ◌++◌, ◌∷◌, [], ℕ, true, false, List, length, Bool, Option, OnOk, IfOk, IfErr, IfSome, IsSome};
+ghost use Rattle.std.specs.Prelude.{◌≡◌, ◌≤◌, ◌+◌, ◌++◌, ◌∷◌, [], ℕ, true, false, List, length, Bool, Option, OnOk, IfOk, IfErr, IfSome};
 ghost use Rattle.flow_lines.specs.Answering.{EndsFull, EndsNext, Gathered, HasEnded, HasOneMore, IsFilled, StopsBetween, commands_in, are_commands};
 ghost use Rattle.flow_lines.specs.Ends.{Gives, input_failed, output_failed};
 ghost use Rattle.flow_lines.specs.Faults.{fault_status};
@@ -10,49 +10,8 @@ use crate::drive::read;
 use crate::input::LineSource;
 use flow_base::command::Command;
 use flow_base::fault::Fault;
+pub use flow_base::number::BatchSize;
 use std::alloc::{AllocError, Global};
-use std::marker::Model;
-
-/// How many commands are applied together at most: 1 to 64.
-#[derive(Clone, Copy, Debug, PartialEq, Eq)]
-pub struct BatchSize {
-    number: u64,
-}
-
-impl Model for BatchSize {
-    ghost use Rattle.std.specs.Prelude.{ℕ, ◌≤◌};
-
-    ghost Value = { ℕ };
-
-    ghost view = { λ s. s.number };
-
-    ghost invariant = { λ s. (1 ≤ s.number) × (s.number ≤ 64) };
-
-    ghost inverse = { λ n. record { number = n } };
-}
-
-impl BatchSize {
-    /// This size, from 1 to 64.
-    pub fn new(number: u64) -> Option<BatchSize>
-        ensures valid { IsSome result ↔ ((1 ≤ number) × (number ≤ 64)) }
-        ensures value { IfSome result (λ s. s ≡ number) }
-    {
-        if number >= 1 && number <= 64 {
-            Some(BatchSize { number })
-        } else {
-            None
-        }
-    }
-
-    /// How many commands a batch has, 1 to 64.
-    pub fn get(self) -> u64
-        ensures value { result ≡ self }
-        ensures first { 1 ≤ result }
-        ensures last { result ≤ 64 }
-    {
-        self.number
-    }
-}
 
 /// A batch that was begun: lines that were read and have no answer yet.
 #[derive(Drop)]
