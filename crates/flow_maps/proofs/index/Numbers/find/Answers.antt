@@ -10,5 +10,5 @@ returns-in_default-get c = λ ks h.
 
 pub returns : goal.returns
 returns c = λ ks h.
-    let found : Some c.in-Some-new.run ≡ at_name c.args.self.now.map c.args.key.now = search rules in
+    let found : Some c.in-Some-new.run' ≡ at_name c.args.self.now.map c.args.key.now = search rules in
     found ∙ number_found c.args.self.now c.args.key.now ks h
