@@ -1,5 +1,5 @@
 -- Names that many are kept of, and what maps have by them.
-use Rattle.std.specs.Prelude.{ℕ, Bool, List, ◌∷◌, ◌++◌, length, Option}
+use Rattle.std.specs.Prelude.{Bool, ◌∷◌, ◌++◌, length, Option}
 use Rattle.std.specs.BTreeMap.{BTreeMap, get}
 use Rattle.std.specs.Cmp.Lexicographic.{slice_cmp}
 use Rattle.std.specs.Ordering.{is_eq, nat_cmp}

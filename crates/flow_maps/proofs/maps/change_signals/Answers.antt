@@ -1,6 +1,6 @@
 use Rattle.std.proofs.Common.{refl}
-use Rattle.flow_model.specs.Book.{changed, with_attempt, with_text}
-use Rattle.flow_maps.proofs.Signalled.{set_quiet, stays_known}
+use Rattle.flow_model.specs.Book.{with_attempt, with_text}
+use Rattle.flow_maps.proofs.Signalled.{set_quiet}
 use Rattle.flow_maps.proofs.maps.change_signals.Goals as goal
 
 pub returns-in-AddText : goal.returns-in-AddText

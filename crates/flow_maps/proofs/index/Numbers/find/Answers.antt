@@ -1,4 +1,4 @@
-use Rattle.std.proofs.Common.{ap, rules, None, Some, ◌≡◌, ◌∙◌}
+use Rattle.std.proofs.Common.{rules, None, Some, ◌≡◌, ◌∙◌}
 use Rattle.flow_maps.specs.Names.{at_name}
 use Rattle.flow_maps.proofs.Keys.{number_found}
 use Rattle.flow_maps.proofs.index.Numbers.find.Goals as goal

@@ -1,4 +1,4 @@
-use Rattle.std.proofs.Common.{◌≡◌, ◌∙◌, is_some, rules, subst, sym, true}
+use Rattle.std.proofs.Common.{◌≡◌, ◌∙◌, is_some, subst, sym, true}
 use Rattle.flow_maps.specs.Names.{at_name, both}
 use Rattle.flow_maps.proofs.Signalled.{inserted, none_more}
 use Rattle.flow_maps.proofs.signals.SignalEvents.add.Goals as goal

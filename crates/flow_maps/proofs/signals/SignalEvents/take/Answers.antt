@@ -1,4 +1,4 @@
-use Rattle.std.proofs.Common.{◌+◌, ◌≡◌, ◌∙◌, None, ap, is_some, rules, subst, sym}
+use Rattle.std.proofs.Common.{◌+◌, ◌≡◌, ◌∙◌, None, ap, rules, subst, sym}
 use Rattle.flow_maps.specs.Names.{at_name, both}
 use Rattle.flow_maps.proofs.Signalled.{inserted, is_nothing}
 use Rattle.flow_maps.proofs.signals.SignalEvents.take.Goals as goal
