@@ -190,6 +190,7 @@ fn turn_away<B: Room, R: Wait + time::Clock>(
     requires none { publisher.old.held ≡ [] }
     requires most { (1 ≤ most) × (most ≤ 64) }
     ensures done { IsDone publisher.new }
+    ensures ended { publisher.new.ended ≡ true }
     ensures none { publisher.new.held ≡ [] }
     ensures history { (publisher.new.history ≡ publisher.old.history) × (publisher.new.last ≡ publisher.old.last) }
     ensures posted { publisher.new.posted ≡ publisher.old.posted }
@@ -237,6 +238,8 @@ pub fn serve<S: Alter, B: Room, R: Wait + time::Clock, C: Clock>(
     ensures done { IsDone publisher.new }
     // It was closed before the call, or since then by whoever has the hub: the publisher hasn't closed it.
     ensures closed { OnOk result (publisher.new.ended ≡ publisher.old.ended) }
+    // Behind a fault it doesn't wait for somebody else to close it: the publisher has closed it.
+    ensures closes { IfErr result (λ _. publisher.new.ended ≡ true) }
     ensures goes_on { OnOk result (engine.new.halted ≡ engine.old.halted) }
     ensures given_up { OnOk result (GivesUp publisher.old.refused publisher.new.refused) }
     ensures stops { IfErr result

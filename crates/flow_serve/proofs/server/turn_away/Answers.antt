@@ -16,6 +16,7 @@ loop-preserved g c =
     let rest = c.skip.ensures.skipped.rest in
     let behind = subst (λ (rs : List Refused). TurnsAway rs new.refused c.take.new.into.items) (taken.refused ∙ rest.refused) told.refused in
     record {
+      ended = told.ended ∙ (taken.ended ∙ (rest.ended ∙ i.ended));
       none = told.held;
       history = told.history ∙ (taken.history ∙ (rest.history ∙ i.history));
       last = told.last ∙ (taken.last ∙ (rest.last ∙ i.last));

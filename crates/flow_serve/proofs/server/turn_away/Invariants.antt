@@ -1,4 +1,4 @@
-use Rattle.std.proofs.Common.{◌≡◌, List, []}
+use Rattle.std.proofs.Common.{◌≡◌, true, List, []}
 use Rattle.flow_base.specs.declared.submission.Taken.{Taken}
 use Rattle.flow_hub.specs.Knowing.{IsBefore}
 use Rattle.flow_serve.specs.Serving.{TurnsAway}
@@ -7,6 +7,7 @@ use Rattle.flow_serve.proofs.server.turn_away.Given as goal
 abbrev pub invariant-loop : goal.invariant-loop
 invariant-loop g l =
     record {
+      ended : l.publisher.ended ≡ true;
       none : l.publisher.held ≡ [];
       history : l.publisher.history ≡ l.fn.publisher.history;
       last : l.publisher.last ≡ l.fn.publisher.last;
