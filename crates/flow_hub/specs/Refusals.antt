@@ -5,7 +5,7 @@ use Rattle.flow_hub.specs.declared.denied.Denied.{Denied}
 use Rattle.flow_hub.specs.declared.denied.Denied.TheVariants as denied
 use Rattle.flow_hub.specs.declared.denied.Unseated.{Unseated}
 use Rattle.flow_hub.specs.declared.denied.Unseated.TheVariants as unseated
-use Rattle.flow_hub.specs.declared.ticket.NotDone.{NotDone}
+use Rattle.flow_hub.specs.declared.ticket.NotDoneFacts.{NotDoneFacts}
 use Rattle.flow_hub.specs.declared.ticket.Why.{Why}
 use Rattle.flow_hub.specs.declared.ticket.Why.TheVariants as why
 
@@ -27,5 +27,5 @@ abbrev pub spent_by : Why → Bool
 spent_by why.NotMine = false
 spent_by (why.Refused code) = true
 
-abbrev pub is_spent : NotDone → Bool
+abbrev pub is_spent : NotDoneFacts → Bool
 is_spent n = spent_by n.code
