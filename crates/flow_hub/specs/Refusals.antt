@@ -15,7 +15,7 @@ denied_number denied.HubClosed = 91
 
 abbrev pub unseated_number : Unseated → ℕ
 unseated_number (unseated.NoMemory _) = 1
-unseated_number unseated.InboxFull = 90
+unseated_number (unseated.InboxFull _) = 90
 
 abbrev pub why_number : Why → ℕ
 why_number why.NotMine = 92
