@@ -5,7 +5,7 @@ ghost use Rattle.flow_hub.specs.Asks.{Stands, IsOwn, IsGone, IsTold};
 ghost use Rattle.flow_hub.specs.Knowing.{IsBefore, IsHistory, IsSamePart, answered_in, nothing};
 ghost use Rattle.flow_hub.specs.Seating.{opener, seeing, IsSubmitters, IsPublishers};
 ghost use Rattle.flow_hub.specs.Halls.{submitted, took, published, refused_all, fetched_receipt, fetched_refusal, enrolled, closed, ended, new_ask, unfetched};
-ghost use Rattle.flow_hub.specs.Publishing.{Answers, HasTaken, HasPublished, HasRefused, HasEnded, IsAllTaken, IsDone};
+ghost use Rattle.flow_hub.specs.Publishing.{Answers, HasTaken, HasPublished, HasRefused, HasEnded, IsAllTaken, IsDone, TakesAll};
 ghost use Rattle.flow_hub.specs.Submitting.{HasTakenIn, IsFetched, IsOpen, IsDenied, IsSettled};
 
 mod boards;
@@ -278,10 +278,11 @@ impl<B: Room> State<B> {
         ensures grows { IsBefore me.was result.was }
         ensures none { into.new.items ≡ [] → self.new.known.closed ≡ true → IsDone result.was }
         ensures all { length into.new.items < most → IsAllTaken result.was }
+        ensures whole { TakesAll most me.was result.was }
     {
         move_front(&mut self.waiting, into, most);
         self.held += into.len();
-        self.known.take(into);
+        self.known.take(into, &self.waiting);
         seats.tell(&mut self.keeper, me, self.places, self.places, &self.known)
     }
 

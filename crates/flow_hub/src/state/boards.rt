@@ -14,6 +14,7 @@ use crate::fed::Until;
 use crate::known::BoardSummary;
 use crate::rested::Rested;
 use crate::seats::{HubTable, Pass, Room};
+use flow_base::fault::Fault;
 use flow_base::number::Moment;
 use flow_base::task::Task;
 use flow_commit::board::Board;
@@ -59,15 +60,15 @@ impl<B: Room> State<B> {
         (me, Ok(()))
     }
 
-    /// No board this time.
-    pub(crate) fn skip(&mut self, seats: &HubTable<B>, me: Pass<B>) -> Pass<B>
+    /// No board this time, for this fault.
+    pub(crate) fn skip(&mut self, seats: &HubTable<B>, me: Pass<B>, fault: &Fault) -> Pass<B>
         requires seat { IsPublishers me }
-        ensures skipped { self.new ≡ skipped self.old }
+        ensures skipped { self.new ≡ skipped self.old fault.now }
         ensures seat { result ≡ seeing true false 0 self.new.known }
-        ensures seen { HasSkipped me.was result.was }
+        ensures seen { HasSkipped me.was result.was fault.now }
         ensures grows { IsBefore me.was result.was }
     {
-        self.known.skip();
+        self.known.skip(fault);
         seats.tell(&mut self.keeper, me, self.places, self.places, &self.known)
     }
 
