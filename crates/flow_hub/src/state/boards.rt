@@ -5,7 +5,7 @@ ghost use Rattle.flow_hub.specs.Halls.{posted_on, skipped, gave};
 ghost use Rattle.flow_hub.specs.Knowing.{IsBefore, IsSamePart, answered_in, nothing};
 ghost use Rattle.flow_queues.specs.Posting.{HasKeys, IsOnce};
 ghost use Rattle.flow_hub.specs.Publishing.{HasPosted, HasSkipped};
-ghost use Rattle.flow_hub.specs.Ending.{HasCome};
+ghost use Rattle.flow_hub.specs.Ending.{HasCome, IsAwaited};
 ghost use Rattle.flow_hub.specs.Feeding.{HasGiven, IsIdle, IsRested, due_in};
 ghost use Rattle.flow_hub.specs.Seating.{seeing, IsGivers, IsPublishers, IsSubmitters};
 
@@ -128,6 +128,7 @@ impl<B: Room> State<B> {
     pub(crate) fn has_come(&mut self, until: Until) -> bool
         ensures same { self.new ≡ self.old }
         ensures come { result ≡ true → HasCome until self.old.known }
+        ensures awaited { result ≡ false → IsAwaited until self.old.known }
     {
         match until {
             Until::There => false,
@@ -153,7 +154,8 @@ impl<B: Room> State<B> {
 
     /// Whether no board could be made since what was taken last was answered.
     pub(crate) fn has_no_board(&self) -> bool
-        ensures { result ≡ true → (self.now.known.boarded ≡ true) × (self.now.known.outlook ≡ None) }
+        ensures none { result ≡ true → (self.now.known.boarded ≡ true) × (self.now.known.outlook ≡ None) }
+        ensures some { result ≡ false → self.now.known.boarded ≡ true → self.now.known.outlook ≡ None → ⊥ }
     {
         if !self.known.boarded {
             return false;
