@@ -14,7 +14,7 @@ use Rattle.flow_base.specs.declared.task.Task.{Task}
 use Rattle.flow_hub.specs.declared.fed.Fed.{Fed}
 use Rattle.flow_hub.specs.declared.fed.Fed.TheVariants as fed
 use Rattle.flow_hub.specs.declared.known.HubFacts.{HubFacts}
-use Rattle.flow_hub.specs.declared.ticket.Ticket.{Ticket}
+use Rattle.flow_hub.specs.declared.ticket.TicketFacts.{TicketFacts}
 use Rattle.flow_hub.specs.Knowing.{IsBefore, nothing}
 use Rattle.flow_hub.specs.Feeding.{HasFed}
 use Rattle.flow_hub.specs.Submitting.{Member}
@@ -131,7 +131,7 @@ status_task t old new false false same p e s =
 
 -- ---- what stands later too
 
-of_later : (k m : Member) → k.id ≡ m.id → IsBefore k.was m.was → (c : Command) (t : Ticket) → IsOf k c t → IsOf m c t
+of_later : (k m : Member) → k.id ≡ m.id → IsBefore k.was m.was → (c : Command) (t : TicketFacts) → IsOf k c t → IsOf m c t
 of_later k m same later c t is =
     let x : Taken = record { ticket = t.number; command = c } in
     (is.0 ∙ same, subst (λ (l : List Taken). slice_get l t.number ≡ Some x) later.asked.1 (get_front k.was.asked later.asked.0 t.number x is.1))

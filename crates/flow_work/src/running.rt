@@ -48,7 +48,7 @@ pub(crate) struct Opening<B: Room> {
     pub(crate) lines: Sender<InputMessage>,
     pub(crate) own_lines: Sender<InputMessage>,
     pub(crate) inputs: Receiver<InputMessage>,
-    pub(crate) pending: Queue,
+    pub(crate) pending: Queue<B>,
     pub(crate) submitter: Submitter<B>,
     pub(crate) hub: Arc<Hub<B>, Global>,
 }

@@ -61,7 +61,7 @@ pub(crate) fn unseated_fault(unseated: Unseated) -> Fault
 {
     match unseated {
         Unseated::NoMemory(no_memory) => Fault::NoMemory(no_memory),
-        Unseated::InboxFull => Fault::NoMemory(NoMemory::told()),
+        Unseated::InboxFull(_) => Fault::NoMemory(NoMemory::told()),
     }
 }
 
