@@ -13,3 +13,4 @@ pub mod Serving
 pub mod Showing
 pub mod Silence
 pub mod Telling
+pub mod Working
