@@ -1,6 +1,7 @@
 mod Counting
 mod Firing
 mod Hearing
+mod Listening
 mod Printing
 mod Questions
 mod Ran

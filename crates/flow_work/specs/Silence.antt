@@ -1,6 +1,7 @@
 -- Why nothing is answered any more.
 use Rattle.std.specs.Prelude.{◌≡◌, ◌⊎◌, ℕ, List, [], ◌∷◌, ◌++◌, true, Option, None}
 use Rattle.flow_base.specs.declared.command.Command.{Command}
+use Rattle.flow_hub.specs.declared.known.HubFacts.{HubFacts}
 use Rattle.flow_hub.specs.Knowing.{IsBefore}
 use Rattle.flow_hub.specs.Submitting.{Member}
 use Rattle.flow_work.specs.Reading.{IsPendingOf}
@@ -49,3 +50,25 @@ IsOver input.Stopped ps = Unit {0}
 abbrev pub EndsTaking : (List ℕ → Option Command) → (ℕ → Type 0) → Member → List Pending → List InputMessage → Type 0
 EndsTaking reads tells m ps given =
     ((before : List InputMessage) × (last : InputMessage) × (given ≡ before ++ last ∷ []) × IsOver last ps) ⊎ Quits reads tells m
+
+-- ---- where tasks are printed too
+
+-- All tasks that were posted are given out, and a board was posted or left out since all that was taken was answered; or the hub is closed.
+abbrev pub HasAll : HubFacts → Type 0
+HasAll feed = ((feed.given ≡ feed.posted) × (feed.boarded ≡ true)) ⊎ (feed.closed ≡ true)
+
+-- As `IsOver`, and behind the end of the input all tasks are given out too.
+abbrev pub IsServed : InputMessage → List Pending → HubFacts → Type 0
+IsServed (input.Line line) ps feed = ⊥
+IsServed input.Ended ps feed = (ps ≡ []) × HasAll feed
+IsServed input.Failed ps feed = (ps ≡ []) × HasAll feed
+IsServed input.Stopped ps feed = Unit {0}
+
+-- Nothing is answered any more, or no task is given out any more, since the hub is closed.
+abbrev pub IsShut : (List ℕ → Option Command) → (ℕ → Type 0) → Member → HubFacts → Type 0
+IsShut reads tells m feed = Quits reads tells m ⊎ (feed.closed ≡ true)
+
+-- Why no line is taken in any more: what was given last is none, and behind the end all is printed; or nothing is to be printed any more.
+abbrev pub EndsServed : (List ℕ → Option Command) → (ℕ → Type 0) → Member → List Pending → HubFacts → List InputMessage → Type 0
+EndsServed reads tells m ps feed given =
+    ((before : List InputMessage) × (last : InputMessage) × (given ≡ before ++ last ∷ []) × IsServed last ps feed) ⊎ IsShut reads tells m feed

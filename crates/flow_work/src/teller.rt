@@ -5,6 +5,7 @@ ghost use Rattle.flow_work.specs.Questions.{line_served};
 
 use crate::counter::{Counter, Told};
 use crate::desk::Desk;
+use crate::giving::Incoming;
 use crate::input::InputMessage;
 use crossbeam_channel::Receiver;
 use flow_base::fault::Fault;
@@ -59,7 +60,8 @@ fn run_teller<B: Room, W: Write + Drop, R: Wait + time::Clock, C: Clock>(
         hub,
     } = teller;
     let mut counter = Counter::new(desk, feed);
-    counter.serve_lines(rt, clock, &inputs);
+    let mut inputs = Incoming::new(inputs);
+    counter.serve_lines(rt, clock, &mut inputs);
     hub.close(rt);
     counter.into_told()
 }
