@@ -12,8 +12,8 @@ use crate::desk::Desk;
 use crate::handing::{Handing, Ringing};
 use crate::input::{InputMessage, Taking, read_lines};
 use crate::owing::{
-    Dispatching, LastRead, OwedLines, OwedTasks, OwedTicks, OwedWork, ReadingLines, Timing, Worked,
-    Working, last_read, worked_by,
+    Closing, Dispatching, LastRead, OwedLines, OwedTasks, OwedTicks, OwedWork, ReadingLines,
+    Timing, Worked, Working, last_read, worked_by,
 };
 use crate::progress::Progress;
 use crate::reports::Reporter;
@@ -125,21 +125,28 @@ pub(crate) struct OwedReplies<B: Room, W: Write, C> {
     pub(crate) clock: Snapshot<C>,
 }
 
-impl<B: Room, W: Write, C: Clock> Promise<Answered<B, W>> for OwedReplies<B, W, C> {
+impl<B: Room, W: Write, C: Clock> Promise<Closing<B, Answered<B, W>>> for OwedReplies<B, W, C> {
     ghost use Rattle.flow_lines.specs.Commands.{line_command};
     ghost use Rattle.flow_hub.specs.Knowing.{nothing};
     ghost use Rattle.flow_work.specs.Counting.{Owes};
 
-    ghost kept_by = { λ p r. Owes line_command (C.tells p.clock.value) p.desk.value.page p.desk.value.pending.lines.items nothing nothing r.submitter r.lines r.page };
+    ghost kept_by = { λ p r. Owes line_command (C.tells p.clock.value) p.desk.value.page p.desk.value.pending.lines.items nothing nothing r.left.submitter r.left.lines r.left.page };
 }
+
+/// A thread that answers lines.
+pub(crate) type Answering<B, W, C> = PromisedHandle<
+    Closing<B, Answered<B, W>>,
+    OwedReplies<B, W, C>,
+>;
 
 /// Answers lines until the input has ended and no run is open, and then closes the hub.
 fn run_desk<B: Room, W: Write + Drop, R: Wait + time::Clock, C: Clock, P: Write + Drop>(
     rt: &R,
     answerer: Answerer<B, W, P>,
     clock: &C,
-) -> Answered<B, W>
-    ensures { Owes line_command (C.tells clock.now) answerer.desk.page answerer.desk.pending.lines.items nothing nothing result.submitter result.lines result.page }
+) -> Closing<B, Answered<B, W>>
+    ensures { Owes line_command (C.tells clock.now) answerer.desk.page answerer.desk.pending.lines.items nothing nothing
+        result.left.submitter result.left.lines result.left.page }
 {
     let Answerer {
         desk,
@@ -148,8 +155,11 @@ fn run_desk<B: Room, W: Write + Drop, R: Wait + time::Clock, C: Clock, P: Write 
         progress,
     } = answerer;
     let answered = run_clerk(rt, desk, clock, inputs, progress);
-    hub.close(rt);
-    answered
+    let seen = hub.close(rt);
+    Closing {
+        left: answered,
+        seen,
+    }
 }
 
 /// Starts a thread that runs a worker. E01 where there is none.
@@ -311,7 +321,7 @@ pub(crate) fn start_desk<B, R, W, C, P>(
     rt: &R,
     answerer: Answerer<B, W, P>,
     clock: C,
-) -> Result<PromisedHandle<Answered<B, W>, OwedReplies<B, W, C>>, Fault>
+) -> Result<Answering<B, W, C>, Fault>
 where
     B: Room + Send + Sync + 'static,
     R: Threads + Wait + time::Clock + Copy + Send + Drop + 'static,

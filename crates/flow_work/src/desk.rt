@@ -264,6 +264,8 @@ impl<B: Room, W: Write + Drop> Desk<B, W> {
         inputs: &mut G,
     ) -> Option<InputMessage>
         ensures room { IfSome result (λ _. length self.now.pending.lines.items < 64) }
+        // Where nothing waits for a reply it waits for what is read.
+        ensures waits { IfNone result (0 < length self.now.pending.lines.items) }
         ensures given { MatchOption result (G.given inputs.new ≡ G.given inputs.old)
             (λ i. G.given inputs.new ≡ G.given inputs.old ++ i ∷ []) }
     {

@@ -6,6 +6,7 @@ use crate::input::Taking;
 use crate::reports::Reporter;
 use crate::tasks::Tasks;
 use crate::unknown::Stranger;
+use flow_hub::hub::SeenClosed;
 use flow_hub::seats::Room;
 use flow_pool::activity::Activity;
 use flow_pool::ends::TaskReceiver;
@@ -13,6 +14,13 @@ use flow_timers::Clock;
 use std::io::{BufRead, Write};
 use std::snapshot::Snapshot;
 use std::thread::{Promise, PromisedHandle};
+
+/// What is left of a thread that closes the hub at its end, and what it saw then. Nothing but closing the hub gives that.
+#[derive(Drop)]
+pub(crate) struct Closing<B: Room, T> {
+    pub(crate) left: T,
+    pub(crate) seen: SeenClosed<B>,
+}
 
 /// What a worker had at its end, for contracts alone.
 #[derive(Drop)]

@@ -8,12 +8,12 @@ ghost use Rattle.flow_work.specs.Printing.{blank};
 ghost use Rattle.flow_work.specs.Serving.{PrintsReplies, ServedBy};
 
 use crate::clerk::Answered;
-use crate::crew::{Answerer, OwedReplies, start_desk, start_reader, start_timer};
+use crate::crew::{Answerer, Answering, start_desk, start_reader, start_timer};
 use crate::desk::Desk;
 use crate::ended::Ended;
 use crate::handing::Handing;
 use crate::input::InputMessage;
-use crate::owing::{Dispatching, ReadingLines, Timing, Working};
+use crate::owing::{Closing, Dispatching, ReadingLines, Timing, Working};
 use crate::progress::Progress;
 use crate::queue::Queue;
 use crate::skills::Skills;
@@ -39,7 +39,7 @@ use std::alloc::{AllocError, Global};
 use std::io::{BufRead, Write};
 use std::marker::Brand;
 use std::sync::{Arc, Wait};
-use std::thread::{PromisedHandle, Threads};
+use std::thread::Threads;
 use std::time;
 
 /// How many lines may be read ahead.
@@ -82,10 +82,7 @@ pub(crate) fn open_lines<B: Room, R: Wait>(
     }
 }
 
-/// Who answers lines.
-type Answering<B, W, C> = PromisedHandle<Answered<B, W>, OwedReplies<B, W, C>>;
-
-/// The same, the end by which it is told that no line is answered any more, and who reads.
+/// Who answers lines, the end by which it is told that no line is answered any more, and who reads.
 type Telling<B, I, W, C> = (
     Answering<B, W, C>,
     Sender<InputMessage>,
@@ -298,20 +295,21 @@ fn feed_back<B: Room, R: Threads, A: Activity, C: Clock, P: Write>(
 fn ended_with<B: Room, R: Wait, W: Write + Drop>(
     rt: &R,
     publisher: &mut Publisher<B>,
-    answered: Answered<B, W>,
+    answered: Closing<B, Answered<B, W>>,
     feed: Feed<B>,
     served: Result<(), Fault>,
 ) -> Ended<W>
     ensures served { result.served ≡ served }
-    ensures printed { (W.contents result.writer ≡ answered.page.bytes) × (result.status ≡ answered.page.status) }
-    ensures submitter { IsBefore answered.submitter.was publisher.new }
+    ensures printed { (W.contents result.writer ≡ answered.left.page.bytes) × (result.status ≡ answered.left.page.status) }
+    ensures submitter { IsBefore answered.left.submitter.was publisher.new }
     ensures part { IsSamePart publisher.old publisher.new }
 {
+    let Closing { left, seen: _seen } = answered;
     let Answered {
         page,
         submitter,
         lines: _lines,
-    } = answered;
+    } = left;
     publisher.meet(rt, submitter, feed);
     let (writer, status, _is_mute) = page.into_parts();
     Ended {

@@ -13,7 +13,7 @@ use crate::desk::Desk;
 use crate::ended::{Ended, Served};
 use crate::handing::Ringing;
 use crate::input::InputMessage;
-use crate::owing::{ReadingLines, Timing};
+use crate::owing::{Closing, ReadingLines, Timing};
 use crate::running::{Opening, begin, open_hub, open_lines, serve_new, start_timing};
 use crate::teller::{Owed, Teller, start_teller};
 use crate::workers::feed_of;
@@ -79,7 +79,7 @@ where
 /// Who answers lines and prints tasks, the end by which it is told that no line is answered any more, who reads, and who fires what is
 /// due.
 type Telling<B, I, W, C> = (
-    PromisedHandle<Told<B, W>, Owed<B, W, C>>,
+    PromisedHandle<Closing<B, Told<B, W>>, Owed<B, W, C>>,
     Sender<InputMessage>,
     ReadingLines<I, Ringing<B>>,
     Timing<B, C>,
@@ -163,24 +163,25 @@ where
 fn taken_back<B: Room, R: Wait, W: Write + Drop>(
     rt: &R,
     publisher: &mut Publisher<B>,
-    told: Told<B, W>,
+    told: Closing<B, Told<B, W>>,
     served: Result<(), Fault>,
 ) -> Served<W>
     ensures served { result.ended.served ≡ served }
-    ensures printed { (W.contents result.ended.writer ≡ told.page.bytes) × (result.is_mute ≡ told.page.is_mute)
-        × (result.shown ≡ told.page.shown) }
-    ensures lines { result.lines ≡ told.lines }
-    ensures status { result.ended.status ≡ told.page.status }
-    ensures submitter { IsBefore told.submitter.was publisher.new }
-    ensures feed { IsBefore told.feed publisher.new }
+    ensures printed { (W.contents result.ended.writer ≡ told.left.page.bytes) × (result.is_mute ≡ told.left.page.is_mute)
+        × (result.shown ≡ told.left.page.shown) }
+    ensures lines { result.lines ≡ told.left.lines }
+    ensures status { result.ended.status ≡ told.left.page.status }
+    ensures submitter { IsBefore told.left.submitter.was publisher.new }
+    ensures feed { IsBefore told.left.feed publisher.new }
     ensures part { IsSamePart publisher.old publisher.new }
 {
+    let Closing { left, seen: _seen } = told;
     let Told {
         page,
         submitter,
         feed,
         lines,
-    } = told;
+    } = left;
     publisher.meet(rt, submitter, feed);
     let shown = page.shown();
     let (writer, status, is_mute) = page.into_parts();
