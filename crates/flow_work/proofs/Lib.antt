@@ -1,4 +1,5 @@
 mod Counting
+mod Failing
 mod Firing
 mod Hearing
 mod Listening

@@ -30,7 +30,7 @@ pub all_over : (reads : List ℕ → Option Command) (tells : ℕ → Type 0) (k
 all_over reads tells k m ps rest feed same left all (inl e) = inl (subst (λ x. x ≡ []) (sym left) e, all)
 all_over reads tells k m ps rest feed same left all (inr q) = inr (inl (subst (Quits reads tells) (sym same) q))
 
-pub ends_served : (reads : List ℕ → Option Command) (tells : ℕ → Type 0) (m : Member) (ps : List Pending) (feed : HubFacts) (given was : List InputMessage) (x : InputMessage) → given ≡ was ++ x ∷ [] → IsServed x ps feed ⊎ IsShut reads tells m feed
-    → EndsServed reads tells m ps feed given
-ends_served reads tells m ps feed given was x e (inl over) = inl (was, x, e, over)
-ends_served reads tells m ps feed given was x e (inr shut) = inr shut
+pub ends_served : (reads : List ℕ → Option Command) (tells : ℕ → Type 0) (m : Member) (ps : List Pending) (feed : HubFacts) (n : ℕ) (given was : List InputMessage) (x : InputMessage) → given ≡ was ++ x ∷ [] → IsServed x ps feed n ⊎ IsShut reads tells m feed
+    → EndsServed reads tells m ps feed n given
+ends_served reads tells m ps feed n given was x e (inl over) = inl (was, x, e, over)
+ends_served reads tells m ps feed n given was x e (inr shut) = inr shut

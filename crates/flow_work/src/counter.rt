@@ -120,6 +120,7 @@ impl<B: Room, W: Write + Drop> Counter<B, W> {
         ensures all { result ≡ false → HasAll self.new.feed }
         ensures pending { self.new.desk.pending.lines.items ≡ self.old.desk.pending.lines.items }
         ensures submitter { self.new.desk.submitter ≡ self.old.desk.submitter }
+        ensures failed { self.old.desk.page.status ≡ 3 → self.new.desk.page.status ≡ 3 }
         ensures lines { self.new.lines ≡ self.old.lines }
     {
         let fed = self.feed.last(rt);
@@ -135,6 +136,7 @@ impl<B: Room, W: Write + Drop> Counter<B, W> {
         ensures all { HasAll self.new.feed }
         ensures pending { self.new.desk.pending.lines.items ≡ self.old.desk.pending.lines.items }
         ensures submitter { self.new.desk.submitter ≡ self.old.desk.submitter }
+        ensures failed { self.old.desk.page.status ≡ 3 → self.new.desk.page.status ≡ 3 }
         ensures lines { self.new.lines ≡ self.old.lines }
     {
         'tasks: for _ in rt.forever() {
@@ -154,6 +156,7 @@ impl<B: Room, W: Write + Drop> Counter<B, W> {
             (C.tells clock.now) first self.old.feed self.old.desk.submitter self.old.desk.pending.lines.items self.old.lines self.old.desk.page
             → ((self.new.desk.pending.lines.items ≡ []) × HasAll self.new.feed)
             ⊎ IsShut line_served (C.tells clock.now) self.new.desk.submitter self.new.feed }
+        ensures failed { self.old.desk.page.status ≡ 3 → self.new.desk.page.status ≡ 3 }
         ensures lines { self.new.lines ≡ self.old.lines }
     {
         self.desk.tell_all(rt);
@@ -167,7 +170,7 @@ impl<B: Room, W: Write + Drop> Counter<B, W> {
             → Counted line_served (C.tells clock.now) first self.new.feed self.new.desk.submitter self.new.lines self.new.desk.page }
         ensures ends { (first : Option (List ℕ)) → Counts line_served
             (C.tells clock.now) first self.old.feed self.old.desk.submitter self.old.desk.pending.lines.items self.old.lines self.old.desk.page
-            → ((self.new.desk.pending.lines.items ≡ []) × HasAll self.new.feed)
+            → ((self.new.desk.pending.lines.items ≡ []) × HasAll self.new.feed × (self.new.desk.page.status ≡ 3))
             ⊎ IsShut line_served (C.tells clock.now) self.new.desk.submitter self.new.feed }
         ensures lines { self.new.lines ≡ self.old.lines }
     {
@@ -206,7 +209,7 @@ impl<B: Room, W: Write + Drop> Counter<B, W> {
         ensures shut { (first : Option (List ℕ)) → Counts line_served
             (C.tells clock.now) first self.old.feed self.old.desk.submitter self.old.desk.pending.lines.items self.old.lines self.old.desk.page
             → result ≡ false → IsServed input self.new.desk.pending.lines.items self.new.feed
-            ⊎ IsShut line_served (C.tells clock.now) self.new.desk.submitter self.new.feed }
+            self.new.desk.page.status ⊎ IsShut line_served (C.tells clock.now) self.new.desk.submitter self.new.feed }
         ensures lines { Takes input self.old.lines self.new.lines }
     {
         match input {
@@ -237,7 +240,7 @@ impl<B: Room, W: Write + Drop> Counter<B, W> {
         ensures ends { (first : Option (List ℕ)) → Counts line_served
             (C.tells clock.now) first self.old.feed self.old.desk.submitter self.old.desk.pending.lines.items self.old.lines self.old.desk.page
             → result ≡ false → EndsServed line_served (C.tells clock.now) self.new.desk.submitter self.new.desk.pending.lines.items
-            self.new.feed (G.given inputs.new) }
+            self.new.feed self.new.desk.page.status (G.given inputs.new) }
         ensures lines { self.old.lines ≡ lines_in (G.given inputs.old) → self.new.lines ≡ lines_in (G.given inputs.new) }
     {
         match self.desk.ready_input(rt, inputs) {
@@ -260,7 +263,7 @@ impl<B: Room, W: Write + Drop> Counter<B, W> {
         ensures ends { (first : Option (List ℕ)) → Counts line_served
             (C.tells clock.now) first self.old.feed self.old.desk.submitter self.old.desk.pending.lines.items self.old.lines self.old.desk.page
             → EndsServed line_served (C.tells clock.now) self.new.desk.submitter self.new.desk.pending.lines.items
-            self.new.feed (G.given inputs.new) }
+            self.new.feed self.new.desk.page.status (G.given inputs.new) }
         ensures lines { self.old.lines ≡ lines_in (G.given inputs.old) → self.new.lines ≡ lines_in (G.given inputs.new) }
     {
         'steps: for _ in rt.forever() {

@@ -7,7 +7,7 @@ use Rattle.flow_work.proofs.clerk.Clerk.step.Goals as goal
 pub returns-in-Some-clause-ends : goal.returns-in-Some-clause-ends
 returns-in-Some-clause-ends g c =
     let tells = g.C.Clock.tells c.args.clock.now in
-    λ first k off. ends_given line_command tells c.deal.new.self.desk.submitter c.deal.new.self.desk.pending.lines.items (g.G.Giving.given c.next_input.new.inputs) (g.G.Giving.given c.args.inputs.now) c.in-Some.input c.in-Some.ensures.given (c.deal.ensures.quits first k off)
+    λ first k off. ends_given line_command tells c.deal.new.self.desk.submitter c.deal.new.self.desk.pending.lines.items c.deal.new.self.desk.page.status (g.G.Giving.given c.next_input.new.inputs) (g.G.Giving.given c.args.inputs.now) c.in-Some.input c.in-Some.ensures.given (c.deal.ensures.quits first k off)
 
 pub returns-in-Some-clause-lines : goal.returns-in-Some-clause-lines
 returns-in-Some-clause-lines g c =

@@ -16,6 +16,9 @@ returns-then-not-print_last-clause-submitter g c = c.print_last.ensures.submitte
 pub returns-then-not-print_last-clause-lines : goal.returns-then-not-print_last-clause-lines
 returns-then-not-print_last-clause-lines g c = c.print_last.ensures.lines ∙ c.tasks.invariant.5
 
+pub returns-then-not-print_last-clause-failed : goal.returns-then-not-print_last-clause-failed
+returns-then-not-print_last-clause-failed g c = λ e. c.print_last.ensures.failed (c.tasks.invariant.6 e)
+
 pub tasks-preserved : goal.tasks-preserved
 tasks-preserved g c = (
   search rules,
@@ -24,4 +27,5 @@ tasks-preserved g c = (
   c.print_last.ensures.pending ∙ c.tasks.invariant.3,
   c.print_last.ensures.submitter ∙ c.tasks.invariant.4,
   c.print_last.ensures.lines ∙ c.tasks.invariant.5,
+  λ e. c.print_last.ensures.failed (c.tasks.invariant.6 e),
 )

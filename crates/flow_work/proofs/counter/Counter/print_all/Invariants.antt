@@ -11,3 +11,4 @@ invariant-tasks g l =
     × (l.self.desk.pending.lines.items ≡ l.initial.self.desk.pending.lines.items)
     × (l.self.desk.submitter ≡ l.initial.self.desk.submitter)
     × (l.self.lines ≡ l.initial.self.lines)
+    × (l.initial.self.desk.page.status ≡ 3 → l.self.desk.page.status ≡ 3)

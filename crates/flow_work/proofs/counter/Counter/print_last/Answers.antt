@@ -1,6 +1,7 @@
 use Rattle.std.proofs.Common.{ap, sym, ◌∙◌}
 use Rattle.flow_work.specs.Questions.{line_served}
 use Rattle.flow_work.proofs.Counting.{counted_fed}
+use Rattle.flow_work.proofs.Failing.{fed_failed}
 use Rattle.flow_work.proofs.Listening.{all_fed}
 use Rattle.flow_work.proofs.counter.Counter.print_last.Goals as goal
 
@@ -21,3 +22,6 @@ returns-clause-pending g c = ap (λ q. q.lines.items) c.print_fed.ensures.pendin
 
 pub returns-clause-submitter : goal.returns-clause-submitter
 returns-clause-submitter g c = c.print_fed.ensures.submitter
+
+pub returns-clause-failed : goal.returns-clause-failed
+returns-clause-failed g c = λ e. fed_failed c.last-fed.result c.args.self.now.desk.page c.print_fed.new.self.page c.print_fed.ensures.printed e

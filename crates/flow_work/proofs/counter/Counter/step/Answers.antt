@@ -9,7 +9,7 @@ pub returns-in-Some-clause-ends : goal.returns-in-Some-clause-ends
 returns-in-Some-clause-ends g c =
     let tells = g.C.Clock.tells c.args.clock.now in
     let now = c.deal.new.self in
-    λ first k off. ends_served line_served tells now.desk.submitter now.desk.pending.lines.items now.feed (g.G.Giving.given c.ready_input.new.inputs) (g.G.Giving.given c.args.inputs.now) c.in-Some.input c.in-Some.ensures.given (c.deal.ensures.shut first k off)
+    λ first k off. ends_served line_served tells now.desk.submitter now.desk.pending.lines.items now.feed now.desk.page.status (g.G.Giving.given c.ready_input.new.inputs) (g.G.Giving.given c.args.inputs.now) c.in-Some.input c.in-Some.ensures.given (c.deal.ensures.shut first k off)
 
 pub returns-in-Some-clause-lines : goal.returns-in-Some-clause-lines
 returns-in-Some-clause-lines g c =
