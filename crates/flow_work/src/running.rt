@@ -476,7 +476,8 @@ where
     match start_all(
         rt, alloc, &hub, reader, writer, terminal, unknown, settings, skills, clock, &group,
     ) {
-        Ok(((answering, own_lines, _reading), crew)) => {
+        Ok((telling, crew)) => {
+            let (answering, own_lines, _reading) = telling;
             let served = serve_new(rt, engine, &mut publisher, &clock, settings.batch());
             // Who answers lines may wait for one, and none is answered any more.
             let _ = own_lines.send(rt, InputMessage::Stopped);
