@@ -9,6 +9,7 @@ use Rattle.flow_base.specs.declared.fault.Fault.TheVariants as fault
 use Rattle.flow_settings.specs.Allowed.{Chosen}
 use Rattle.flow_commit.specs.Keeping.{Keeping}
 use Rattle.flow_engine.specs.Answering.{Follows}
+use Rattle.flow_work.specs.Counting.{IsStatusOf}
 use Rattle.flow_work.specs.Endings.{EndsServing, HasServedAll}
 use Rattle.flow_work.specs.Serving.{PrintsReplies, Shows}
 use Rattle.flow_work.specs.declared.ended.Ended.{Ended}
@@ -42,6 +43,7 @@ pub record HasPrinted {S W : Type 0} (g : Ghosts S) (contents : W → Option (Li
   pub printed : prints writer
   pub ended : Served W
   pub shows : Shows g (λ _. Unit {0}) before behind (contents writer) (contents ended.ended.writer) ended.is_mute ended.lines ended.shown
+  pub are : IsStatusOf ended.is_mute ended.shown ended.ended.status
   pub status : IfOk r (λ n. n ≡ ended.ended.status)
 
 abbrev pub Prints : {S W I : Type 0} → Ghosts S → (W → Option (List ℕ)) → (W → Type 0) → (Result I Error → Type 0) → Keeping S → Keeping S → Result ℕ Fault → Type 0
