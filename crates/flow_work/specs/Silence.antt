@@ -1,7 +1,9 @@
 -- Why nothing is answered any more.
-use Rattle.std.specs.Prelude.{◌≡◌, ◌⊎◌, ℕ, List, [], ◌∷◌, ◌++◌, true, Option, None}
+use Rattle.std.specs.Prelude.{◌≡◌, ◌⊎◌, ◌<◌, ℕ, List, [], ◌∷◌, ◌++◌, true, length, Option, None}
 use Rattle.flow_base.specs.declared.command.Command.{Command}
+use Rattle.flow_hub.specs.declared.fed.Fed.{Fed}
 use Rattle.flow_hub.specs.declared.known.HubFacts.{HubFacts}
+use Rattle.flow_hub.specs.Feeding.{HasFed}
 use Rattle.flow_hub.specs.Knowing.{IsBefore}
 use Rattle.flow_hub.specs.Submitting.{Member}
 use Rattle.flow_work.specs.Reading.{IsPendingOf}
@@ -51,7 +53,24 @@ abbrev pub EndsTaking : (List ℕ → Option Command) → (ℕ → Type 0) → M
 EndsTaking reads tells m ps n given =
     ((before : List InputMessage) × (last : InputMessage) × (given ≡ before ++ last ∷ []) × IsOver last ps n) ⊎ Quits reads tells m
 
+-- The oldest of these lines waits no more.
+abbrev pub IsFewer : (was now : List Pending) → Type 0
+IsFewer [] now = now ≡ []
+IsFewer (p ∷ ps) now = now ≡ ps
+
+-- A line waited, and the oldest has its answer.
+abbrev pub AnswersOldest : (was now : List Pending) → Type 0
+AnswersOldest was now = (0 < length was) × IsFewer was now
+
+-- What was given next is dealt with; or nothing was given, and that was done.
+abbrev pub IsStep : (was now : List InputMessage) → Type 0 → Type 0
+IsStep was now does = ((x : InputMessage) × (now ≡ was ++ x ∷ [])) ⊎ ((now ≡ was) × does)
+
 -- ---- where tasks are printed too
+
+-- It was asked what is given out next.
+abbrev pub Listens : (old new : HubFacts) → Type 0
+Listens old new = (f : Fed) × HasFed old new f
 
 -- All tasks that were posted are given out, and a board was posted or left out since all that was taken was answered; or the hub is closed.
 abbrev pub HasAll : HubFacts → Type 0

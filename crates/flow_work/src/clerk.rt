@@ -5,7 +5,7 @@ ghost use Rattle.flow_hub.specs.Knowing.{nothing};
 ghost use Rattle.flow_work.specs.Counting.{Counted, Counts, Goes, Owes};
 ghost use Rattle.flow_work.specs.Inputs.{Takes, lines_in};
 ghost use Rattle.flow_work.specs.Resting.{HasRested};
-ghost use Rattle.flow_work.specs.Silence.{EndsTaking, IsOver, Quits};
+ghost use Rattle.flow_work.specs.Silence.{AnswersOldest, EndsTaking, IsFewer, IsOver, IsStep, Quits};
 
 use crate::desk::Desk;
 use crate::giving::{Giving, Incoming};
@@ -135,6 +135,7 @@ impl<B: Room, W: Write + Drop> Clerk<B, W> {
         ensures quits { (first : Option (List ℕ)) → Counts line_command
             (C.tells clock.now) first nothing self.old.desk.submitter self.old.desk.pending.lines.items self.old.lines self.old.desk.page
             → result ≡ false → Quits line_command (C.tells clock.now) self.new.desk.submitter }
+        ensures fewer { IsFewer self.old.desk.pending.lines.items self.new.desk.pending.lines.items }
         ensures lines { self.new.lines ≡ self.old.lines }
     {
         self.desk.tell_oldest(rt)
@@ -187,6 +188,9 @@ impl<B: Room, W: Write + Drop> Clerk<B, W> {
             (C.tells clock.now) first nothing self.old.desk.submitter self.old.desk.pending.lines.items self.old.lines self.old.desk.page
             → result ≡ false → EndsTaking line_command (C.tells clock.now) self.new.desk.submitter self.new.desk.pending.lines.items
             self.new.desk.page.status (G.given inputs.new) }
+        // No round passes in which nothing is done.
+        ensures steps { IsStep (G.given inputs.old) (G.given inputs.new)
+            (AnswersOldest self.old.desk.pending.lines.items self.new.desk.pending.lines.items) }
         ensures lines { self.old.lines ≡ lines_in (G.given inputs.old) → self.new.lines ≡ lines_in (G.given inputs.new) }
     {
         match self.desk.next_input(rt, inputs) {

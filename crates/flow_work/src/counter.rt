@@ -3,7 +3,7 @@ ghost use Rattle.std.specs.Prelude.{◌≡◌, ◌⊎◌, ◌<◌, [], ◌∷◌
 ghost use Rattle.flow_work.specs.Counting.{Counted, Counts, Goes, is_open, is_task};
 ghost use Rattle.flow_work.specs.Inputs.{Takes, lines_in};
 ghost use Rattle.flow_work.specs.Questions.{line_served};
-ghost use Rattle.flow_work.specs.Silence.{EndsServed, HasAll, IsServed, IsShut, Quits};
+ghost use Rattle.flow_work.specs.Silence.{AnswersOldest, EndsServed, HasAll, IsServed, IsShut, IsStep, Listens, Quits};
 
 use crate::desk::Desk;
 use crate::giving::Giving;
@@ -105,6 +105,7 @@ impl<B: Room, W: Write + Drop> Counter<B, W> {
             (C.tells _clock.now) first self.old.feed self.old.desk.submitter self.old.desk.pending.lines.items self.old.lines self.old.desk.page
             → Goes line_served (C.tells _clock.now) first result self.new.feed self.new.desk.submitter self.new.desk.pending.lines.items self.new.lines self.new.desk.page }
         ensures closed { result ≡ false → self.new.feed.closed ≡ true }
+        ensures listens { Listens self.old.feed self.new.feed }
         ensures lines { self.new.lines ≡ self.old.lines }
     {
         let fed = self.feed.listen(rt);
@@ -186,6 +187,8 @@ impl<B: Room, W: Write + Drop> Counter<B, W> {
         ensures shut { (first : Option (List ℕ)) → Counts line_served
             (C.tells clock.now) first self.old.feed self.old.desk.submitter self.old.desk.pending.lines.items self.old.lines self.old.desk.page
             → result ≡ false → IsShut line_served (C.tells clock.now) self.new.desk.submitter self.new.feed }
+        ensures does { AnswersOldest self.old.desk.pending.lines.items self.new.desk.pending.lines.items
+            ⊎ Listens self.old.feed self.new.feed }
         ensures lines { self.new.lines ≡ self.old.lines }
     {
         if self.desk.has_pending() {
@@ -241,6 +244,10 @@ impl<B: Room, W: Write + Drop> Counter<B, W> {
             (C.tells clock.now) first self.old.feed self.old.desk.submitter self.old.desk.pending.lines.items self.old.lines self.old.desk.page
             → result ≡ false → EndsServed line_served (C.tells clock.now) self.new.desk.submitter self.new.desk.pending.lines.items
             self.new.feed self.new.desk.page.status (G.given inputs.new) }
+        // No round passes in which nothing is done.
+        ensures steps { IsStep (G.given inputs.old) (G.given inputs.new)
+            (AnswersOldest self.old.desk.pending.lines.items self.new.desk.pending.lines.items
+            ⊎ Listens self.old.feed self.new.feed) }
         ensures lines { self.old.lines ≡ lines_in (G.given inputs.old) → self.new.lines ≡ lines_in (G.given inputs.new) }
     {
         match self.desk.ready_input(rt, inputs) {

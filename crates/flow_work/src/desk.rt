@@ -297,7 +297,8 @@ impl<B: Room, W: Write + Drop> Desk<B, W> {
 
     /// Whether a line waits for its reply.
     pub(crate) fn has_pending(&self) -> bool
-        ensures { result ≡ false → self.now.pending.lines.items ≡ [] }
+        ensures none { result ≡ false → self.now.pending.lines.items ≡ [] }
+        ensures some { result ≡ true → 0 < length self.now.pending.lines.items }
     {
         self.pending.len() != 0
     }

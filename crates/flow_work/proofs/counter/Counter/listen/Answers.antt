@@ -16,3 +16,6 @@ pub returns-clause-closed : goal.returns-clause-closed
 returns-clause-closed g c =
     let old = c.args.self.now in
     λ off. closed_fed old.feed c.listen-fed.new.self c.listen-fed.result c.listen-fed.ensures.fed (sym c.is_open.ensures ∙ off)
+
+pub returns-clause-listens : goal.returns-clause-listens
+returns-clause-listens g c = (c.listen-fed.result, c.listen-fed.ensures.fed)

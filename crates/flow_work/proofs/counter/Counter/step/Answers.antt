@@ -1,4 +1,4 @@
-use Rattle.std.proofs.Common.{inr, ap, sym, ◌∙◌}
+use Rattle.std.proofs.Common.{inl, inr, ap, sym, ◌∙◌}
 use Rattle.flow_work.specs.Inputs.{lines_in}
 use Rattle.flow_work.specs.Questions.{line_served}
 use Rattle.flow_work.proofs.Counting.{lines_given}
@@ -20,3 +20,9 @@ returns-in-None-clause-ends g c = λ first k off. inr (c.tell.ensures.shut first
 
 pub returns-in-None-clause-lines : goal.returns-in-None-clause-lines
 returns-in-None-clause-lines g c = λ is. c.tell.ensures.lines ∙ (is ∙ ap lines_in (sym c.in-None.ensures.given))
+
+pub returns-in-Some-clause-steps : goal.returns-in-Some-clause-steps
+returns-in-Some-clause-steps g c = inl (c.in-Some.input, c.in-Some.ensures.given)
+
+pub returns-in-None-clause-steps : goal.returns-in-None-clause-steps
+returns-in-None-clause-steps g c = inr (c.in-None.ensures.given, c.tell.ensures.does)
