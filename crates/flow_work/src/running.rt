@@ -18,7 +18,6 @@ use crate::progress::Progress;
 use crate::queue::Queue;
 use crate::skills::Skills;
 use crate::tally::Tally;
-use crate::tasks::Tasks;
 use crate::unknown::{Strangers, UnknownActivity};
 use crate::workers::{reporter, start_pool, unseated_fault};
 use crossbeam_channel::{Receiver, Sender, bounded};
