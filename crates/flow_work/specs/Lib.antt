@@ -14,3 +14,4 @@ pub mod Showing
 pub mod Silence
 pub mod Telling
 pub mod Waiting
+pub mod Working

@@ -20,7 +20,6 @@ use crate::progress::Progress;
 use crate::question::{Accepted, read_as};
 use crate::queue::{MOST_PENDING, PendingLine, Queue, Waiting};
 use crate::status::Status;
-use crossbeam_channel::Receiver;
 use flow_base::code::Code;
 use flow_base::command::Command;
 use flow_base::memory::NoMemory;
@@ -269,6 +268,8 @@ impl<B: Room, W: Write + Drop> Desk<B, W> {
         inputs: &mut G,
     ) -> Option<InputMessage>
         ensures room { IfSome result (λ _. length self.now.pending.lines.items < 64) }
+        // Where nothing waits for a reply it waits for what is read.
+        ensures waits { IfNone result (0 < length self.now.pending.lines.items) }
         ensures given { MatchOption result (G.given inputs.new ≡ G.given inputs.old)
             (λ i. G.given inputs.new ≡ G.given inputs.old ++ i ∷ []) }
     {
@@ -283,22 +284,25 @@ impl<B: Room, W: Write + Drop> Desk<B, W> {
     }
 
     /// What is read next, if it is there and room is left for what waits for a reply.
-    pub(crate) fn ready_input<R: Wait>(
+    pub(crate) fn ready_input<R: Wait, G: Giving>(
         &self,
         rt: &R,
-        inputs: &Receiver<InputMessage>,
+        inputs: &mut G,
     ) -> Option<InputMessage>
-        ensures { IfSome result (λ _. length self.now.pending.lines.items < 64) }
+        ensures room { IfSome result (λ _. length self.now.pending.lines.items < 64) }
+        ensures given { MatchOption result (G.given inputs.new ≡ G.given inputs.old)
+            (λ i. G.given inputs.new ≡ G.given inputs.old ++ i ∷ []) }
     {
         if self.pending.len() >= MOST_PENDING {
             return None;
         }
-        inputs.try_recv(rt).ok()
+        inputs.ready(rt)
     }
 
     /// Whether a line waits for its reply.
     pub(crate) fn has_pending(&self) -> bool
-        ensures { result ≡ false → self.now.pending.lines.items ≡ [] }
+        ensures none { result ≡ false → self.now.pending.lines.items ≡ [] }
+        ensures some { result ≡ true → 0 < length self.now.pending.lines.items }
     {
         self.pending.len() != 0
     }
