@@ -2,6 +2,7 @@
 use Rattle.std.specs.Prelude.{◌≡◌, ◌⊎◌, ℕ, List, [], ◌∷◌, Contains, Option, Some, max}
 use Rattle.flow_base.specs.Syntax.{Program}
 use Rattle.flow_base.specs.declared.event.Cmd.{Cmd}
+use Rattle.flow_base.specs.declared.event.Event.{Event}
 use Rattle.flow_base.specs.declared.event.Input.{Input}
 use Rattle.flow_base.specs.declared.event.Input.TheVariants.{Started}
 use Rattle.flow_base.specs.declared.value.Value.{Value}
@@ -9,6 +10,7 @@ use Rattle.flow_base.specs.declared.book.Change.{Change}
 use Rattle.flow_base.specs.declared.book.Turn.{Turn}
 use Rattle.flow_base.specs.declared.book.Change.TheVariants.{AddTurn}
 use Rattle.flow_model.specs.Configuration.{first_configuration}
+use Rattle.flow_model.specs.Stands.{Stands}
 use Rattle.flow_model.specs.Turn.{Fresh}
 use Rattle.flow_model.specs.Turned.{turned}
 use Rattle.flow_view.specs.declared.head.Head.{Head}
@@ -103,3 +105,9 @@ pub record IsLedBy (p : Program) (h : Head) (s : Stance) (run at : ℕ) (i : Inp
   pub its_text : l.text ≡ h.text
   pub leads : turned p Fresh (config_of p s) (max at h.moment) i ≡ Some (commands, config_of p l.stance)
   pub made : changes ≡ AddTurn run (record { at = max at h.moment; input = i; commands = commands }) ∷ rest
+
+-- Under this text the run's whole history stands at the position.
+pub record IsTextLed (p : Program) (h : List Event) (run text : ℕ) (l : Led) : Type 0 where
+  pub its_run : l.run ≡ run
+  pub its_text : l.text ≡ text
+  pub stands : Stands p h (config_of p l.stance)
