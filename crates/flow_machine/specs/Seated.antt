@@ -18,7 +18,7 @@ use Rattle.flow_model.specs.Book.{Book, changed_by}
 use Rattle.flow_run.specs.Position.{config_of}
 use Rattle.flow_run.specs.declared.stance.Stance.{Stance}
 use Rattle.flow_cache.specs.declared.positions.Entry.{Entry}
-use Rattle.flow_cache.specs.Entries.{Entries, Kept, HasEvents, IsKept, with_entry}
+use Rattle.flow_cache.specs.Entries.{Entries, Kept, HasEvents, IsKept, with_entry, without_entry}
 use Rattle.flow_cache.specs.Laws.{Rule, AllHave}
 use Rattle.flow_machine.specs.Reached.{Meaning, HasReached}
 use Rattle.flow_machine.specs.declared.seats.Led.{Led}
@@ -84,8 +84,16 @@ WasThere es ls e = Contains es e ⊎ Contains ls (record { run = e.0; text = e.1
 abbrev pub KeepsAll : Kept → List Led → Kept → Type 0
 KeepsAll old ls new = (e : ℕ × Entry) → Contains new.entries e → WasThere old.entries ls e
 
-abbrev pub Settles : Seats → Seats → Type 0
-Settles old new = KeepsAll old.kept old.ahead.items new.kept
+-- without the entries of these runs
+abbrev pub without_entries : List ℕ → Kept → Kept
+without_entries [] k = k
+without_entries (run ∷ runs) k = without_entries runs (without_entry run k)
+
+-- What stood ahead is kept, and then the entries of the runs that are over are let go.
+pub record Settles (old new : Seats) : Type 0 where
+  pub between : Kept
+  pub all : KeepsAll old.kept old.ahead.items between
+  pub gone : new.kept ≡ without_entries old.over.items between
 
 -- Once these changes are made, the run has reached where its turn leads.
 abbrev pub LeadsTo : Meaning → Book → List Change → Led → Type 0
