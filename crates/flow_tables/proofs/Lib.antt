@@ -4,7 +4,6 @@ pub mod Stops
 pub mod Reopened
 pub mod Parts
 pub mod BookReads
-pub mod Histories
 pub mod Owning
 pub mod Wholes
 pub mod Causes

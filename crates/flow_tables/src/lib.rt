@@ -11,7 +11,6 @@ mod keys;
 pub mod known;
 mod learning;
 mod one_event;
-mod one_history;
 mod one_run;
 pub mod open;
 mod open_runs;
