@@ -1,5 +1,5 @@
 -- Positions that deciding may use, and what is known of them.
-use Rattle.std.specs.Prelude.{◌≡◌, ◌⊎◌, ℕ, List, [], ◌∷◌, Contains, Option, Some, max}
+use Rattle.std.specs.Prelude.{◌≡◌, ◌⊎◌, ℕ, List, [], ◌∷◌, Contains, Option, None, Some, length, max}
 use Rattle.flow_base.specs.Syntax.{Program}
 use Rattle.flow_base.specs.declared.event.Cmd.{Cmd}
 use Rattle.flow_base.specs.declared.event.Event.{Event}
@@ -8,7 +8,7 @@ use Rattle.flow_base.specs.declared.event.Input.TheVariants.{Started}
 use Rattle.flow_base.specs.declared.value.Value.{Value}
 use Rattle.flow_base.specs.declared.book.Change.{Change}
 use Rattle.flow_base.specs.declared.book.Turn.{Turn}
-use Rattle.flow_base.specs.declared.book.Change.TheVariants.{AddTurn}
+use Rattle.flow_base.specs.declared.book.Change.TheVariants.{AddRun, AddTurn}
 use Rattle.flow_model.specs.Configuration.{first_configuration}
 use Rattle.flow_model.specs.Stands.{Stands}
 use Rattle.flow_model.specs.Turn.{Fresh}
@@ -113,6 +113,25 @@ pub record IsLedBy (p : Program) (h : Head) (s : Stance) (run at : ℕ) (i : Inp
   pub its_text : l.text ≡ h.text
   pub leads : turned p Fresh (config_of p s) (max at h.moment) i ≡ Some (commands, config_of p l.stance)
   pub made : changes ≡ AddTurn run (record { at = max at h.moment; input = i; commands = commands }) ∷ rest
+
+-- The change is a run of this head's flow and text, and its first turn leads to the position.
+pub record IsNextRun (p : Program) (h : Head) (c : Change) (s : Stance) : Type 0 where
+  pub at : ℕ
+  pub arguments : List Value
+  pub turn : Turn
+  pub led : IsFirstLed p at arguments turn s
+  pub made : c ≡ AddRun h.flow None h.text turn
+
+-- The changes are a turn of the run and the run as which it continues, which stands at the position.
+pub record IsNextLed (p : Program) (h : Head) (run : ℕ) (changes : List Change) (s : Stance) : Type 0 where
+  pub turn : Turn
+  pub next : Change
+  pub led : IsNextRun p h next s
+  pub made : changes ≡ AddTurn run turn ∷ next ∷ []
+
+-- Once these changes are made, the last run has reached the position.
+abbrev pub LeadsNext : Meaning → Book → List Change → ℕ → Stance → Type 0
+LeadsNext m b cs text s = HasReached m (changed_by b cs) (length (changed_by b cs).runs) text s
 
 -- Under this text the run's whole history stands at the position.
 pub record IsTextLed (p : Program) (h : List Event) (run text : ℕ) (l : Led) : Type 0 where
