@@ -101,7 +101,7 @@ impl Seats {
     }
 
     /// A run that the batch closes. Where a growth is refused, its position is thrown out as any other.
-    fn end(&mut self, run: RunId)
+    pub(crate) fn end(&mut self, run: RunId)
         ensures ended { (self.new.over.items ≡ self.old.over.items ++ run ∷ []) ⊎ (self.new.over.items ≡ self.old.over.items) }
         ensures ahead { self.new.ahead.items ≡ self.old.ahead.items }
         ensures kept { self.new.kept ≡ self.old.kept }
