@@ -2,6 +2,7 @@
 import importlib.machinery
 import importlib.util
 import os
+import shutil
 import sys
 
 FOLDER = "/opt/rattle/bin"
@@ -16,8 +17,38 @@ def load():
     return module
 
 
+def keeps(rt):
+    """Whether the kit keeps on the machine what its gate has proved: 13f does, 13b doesn't."""
+    return hasattr(rt, "Kept")
+
+
 def crates(rt, folder):
     """The crates of a checkout, lowest first. The kit reads a checkout in its folder, which becomes that of the script."""
     os.chdir(folder)
     rt.Crate.allowed = rt.handles_of(folder)
-    return rt.crates_of(folder)
+    if keeps(rt):
+        return rt.crates_of(folder)
+    # `crates_of` of a kit that keeps nothing sets aside what is built.
+    rt.rtlib.Crate = rt.Crate
+    return sorted(rt.rtlib.crates_below(folder), key=lambda it: len(it.below()))
+
+
+def begin_with(rt, crate, kept):
+    """Gives the checks of a crate, which keep what they prove in the folder `kept`, what earlier checks of it have kept, if anything."""
+    if keeps(rt):
+        rt.adopt(crate, False)
+    earlier = f"{crate.folder}/out/incremental"
+    if not os.path.isdir(earlier):
+        os.mkdir(kept)
+    elif keeps(rt):
+        rt.linked(earlier, kept)
+    else:
+        shutil.copytree(earlier, kept, copy_function=linked)
+
+
+def linked(source, to):
+    """Links a file, or copies it to another disk."""
+    try:
+        os.link(source, to)
+    except OSError:
+        shutil.copy2(source, to)
