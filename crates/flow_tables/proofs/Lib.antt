@@ -12,6 +12,7 @@ pub mod Stopping
 pub mod Reasons
 pub mod Knowing
 pub mod Succession
+pub mod Blocks
 pub mod Opened
 pub mod OpenTables
 pub mod Misreading

@@ -3,6 +3,7 @@
 
 pub mod all_rows;
 pub mod ask;
+pub mod blocks;
 pub mod book_changes;
 pub mod create;
 pub mod fault;
