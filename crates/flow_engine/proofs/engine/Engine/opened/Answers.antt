@@ -1,20 +1,19 @@
 use Rattle.std.proofs.Common.{◌≡◌, Ok, sym, subst}
 use Rattle.sqlite.specs.Held.{state}
 use Rattle.flow_check.specs.Language.{meaning_of}
+use Rattle.flow_model.specs.Book.{Book}
+use Rattle.flow_recover.specs.Positions.{ArePositions}
 use Rattle.flow_tables.specs.Owned.{IsFound}
 use Rattle.flow_commit.specs.Keeping.{Keeping, IsFit}
-use Rattle.flow_engine.specs.Opening.{IsOpened, OpeningSays}
+use Rattle.flow_engine.specs.Opening.{HasFound, IsOpened, OpeningSays}
 use Rattle.flow_engine.proofs.Committed.{one_book}
-use Rattle.flow_engine.proofs.Found.{recovered_found}
+use Rattle.flow_engine.proofs.Found.{found_of, recovered_found}
 use Rattle.flow_engine.proofs.Standing.{keeps_again, open_stands}
-use Rattle.flow_engine.proofs.engine.Engine.open_watched.Goals as goal
-
-pub over-requires : goal.over-requires
-over-requires g c = recovered_found g.S.Store c.args.conn c.in-Ok.keeper c.in-Ok.found.items c.in-Ok.ensures.opened c.in-Ok.ensures.found
+use Rattle.flow_engine.proofs.engine.Engine.opened.Goals as goal
 
 -- What is said of the keeper is said of the engine over it.
-pub returns-in-Ok : goal.returns-in-Ok
-returns-in-Ok g c =
+pub returns-in-Ok-clause-says : goal.returns-in-Ok-clause-says
+returns-in-Ok-clause-says g c =
     let from = state g.S.Store c.args.conn in
     let first = c.in-Ok.keeper in
     let its = c.in-Ok.ensures in
@@ -37,8 +36,19 @@ returns-in-Ok g c =
       refused = tt;
     })
 
-pub returns-in-Err : goal.returns-in-Err
-returns-in-Err g c =
+pub returns-in-Ok-clause-found : goal.returns-in-Ok-clause-found
+returns-in-Ok-clause-found g c =
+    subst (λ (k : Keeping g.row.S.Denot). IsFit g.S.Store k → HasFound g.S.Store k c.in-Ok.found.items) (sym c.over.ensures)
+    (recovered_found g.S.Store c.args.conn c.in-Ok.keeper c.in-Ok.found.items c.in-Ok.ensures.opened c.in-Ok.ensures.found)
+
+pub returns-in-Ok-clause-book : goal.returns-in-Ok-clause-book
+returns-in-Ok-clause-book g c =
+    let has = recovered_found g.S.Store c.args.conn c.in-Ok.keeper c.in-Ok.found.items c.in-Ok.ensures.opened c.in-Ok.ensures.found in
+    subst (λ (k : Keeping g.row.S.Denot). IsFit g.S.Store k → (b : Book) → IsFound (state g.S.Store k.stored.opened) b → ArePositions meaning_of b c.in-Ok.found.items) (sym c.over.ensures)
+    (λ fit b is. found_of g.S.Store c.in-Ok.keeper c.in-Ok.found.items b (has fit) is)
+
+pub returns-in-Err-clause-says : goal.returns-in-Err-clause-says
+returns-in-Err-clause-says g c =
     let its = c.in-Err.ensures in
     record {
       opened = tt;
