@@ -1,5 +1,5 @@
 -- What the move of a store does, and what a refusal or a stop leaves.
-use Rattle.std.specs.Prelude.{◌≡◌, ◌≢◌, ◌⊎◌, IfErr, IfOk, MatchResult, OnOk, Result, false, ℤ, pos, [], Ok}
+use Rattle.std.specs.Prelude.{◌≡◌, ◌≢◌, ◌⊎◌, IfErr, IfOk, MatchResult, OnOk, Result, false, ℤ, length, pos, [], Ok, ◌∷◌}
 use Rattle.sqlite_trees.specs.declared.store.Store.{Ghosts}
 use Rattle.sqlite_value.specs.Order.{Row, column}
 use Rattle.sqlite.specs.Tree.{Trees}
@@ -11,10 +11,12 @@ use Rattle.flow_model.specs.Book.{Book}
 use Rattle.flow_rows.specs.Rows.{One, Tables}
 use Rattle.flow_rows.specs.Told.{TellsIn}
 use Rattle.flow_sql.specs.Layout.{format_sql}
-use Rattle.flow_sql.specs.Past.{IsMoved, IsOverPast, PastRead, past_kinds, past_sql, past_tables}
+use Rattle.flow_sql.specs.Past.{IsMoved, IsOverPast, PastRead, past_kinds, past_sql, past_tables, past_takes}
 use Rattle.flow_sql.specs.States.{CommitsNothing, GoesOn, HasEnded, IsAtRest, Since}
 use Rattle.flow_sql.specs.Stored.{AreUtf8}
 use Rattle.flow_tables.specs.Owned.{IsFileOf, IsPastFileOf}
+use Rattle.flow_tables.specs.declared.blocks.Stretch.{Stretch}
+use Rattle.flow_tables.specs.declared.blocks.Stretch.TheVariants as stretch
 use Rattle.flow_tables.specs.Reads.{IsReadFault}
 use Rattle.flow_tables.specs.declared.fault.StoreFault.{StoreFault}
 
@@ -52,9 +54,26 @@ pub record IsStep {S E : Type 0} (g : Ghosts S) (old new : Held S) (result : Res
 abbrev pub MovesOn : {S E : Type 0} → Ghosts S → Held S → Held S → Result (Unit {0}) E → (Tables → Tables) → Type 0
 MovesOn g old new result after = HasCleanDisk (state g new) → (d : Database) (t : Tables) → IsMoved d (state g old) t → OnOk result (IsMoved d (state g new) (after t))
 
+-- the reads of a stretch of runs, and what is given with them
+abbrev pub runs_read : Stretch → PastRead
+runs_read (stretch.Until last) = PastRead.past_runs_until
+runs_read (stretch.Within before last) = PastRead.past_runs_within
+runs_read (stretch.After before) = PastRead.past_runs_after
+
+abbrev pub events_read : Stretch → PastRead
+events_read (stretch.Until last) = PastRead.past_events_until
+events_read (stretch.Within before last) = PastRead.past_events_within
+events_read (stretch.After before) = PastRead.past_events_after
+
+abbrev pub given_with : Stretch → Row
+given_with (stretch.Until last) = Int (pos last) ∷ []
+given_with (stretch.Within before last) = Int (pos before) ∷ Int (pos last) ∷ []
+given_with (stretch.After before) = Int (pos before) ∷ []
+
 -- one of the reads of tables of the first format failed so
 abbrev pub IsPastFault : {S : Type 0} → Ghosts S → StoreFault → Type 0
-IsPastFault {S} g f = (old new : Held S) × (r : PastRead) × IsReadFault (past_kinds r) (past_sql r) [] (state g old) (state g new) f
+IsPastFault {S} g f =
+    (old new : Held S) × (r : PastRead) × (params : Row) × (past_takes r ≡ length params) × IsReadFault (past_kinds r) (past_sql r) params (state g old) (state g new) f
 
 -- What becomes of reads of tables of the first format: they are told so, and nothing has changed.
 pub record IsPastRead {S A : Type 0} (g : Ghosts S) (old new : Held S) (result : Result A StoreFault) (tells : Tables → A → Type 0) : Type 0 where

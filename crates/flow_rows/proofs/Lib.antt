@@ -26,3 +26,4 @@ pub mod WholeBooks
 pub mod Behind
 pub mod DueFirst
 pub mod OpenFound
+pub mod Parting

@@ -12,3 +12,4 @@ pub mod Recalling
 pub mod Whole
 pub mod Dues
 pub mod Heading
+pub mod Parts

@@ -136,7 +136,6 @@ module _ (l : Layout) (db : Trees) (ours : AreOurs l db) (utf8 : AreUtf8 (tables
     are_readable Read.requested = rows_hold db params 4 _ _ refl ReadsRun _ (λ r h. (h.0, tt)) our_runs _ rows
     are_readable Read.open_run = rows_hold db params 4 _ _ refl ReadsRun _ (λ r h. (h.0, tt)) our_runs _ rows
     are_readable Read.open_numbers = some_hold db params 4 _ _ refl ReadsRun _ (λ r h. (h.0, tt)) our_runs _ rows
-    are_readable Read.all_events = rows_hold db params (tree_of_events l) _ _ (event_bare l db) ReadsEvent _ (λ r h. (h.0, (h.1, (h.2, (h.3, (h.4, tt)))))) events_read _ rows
     are_readable Read.events_until = rows_hold db params (tree_of_events l) _ _ (event_bare l db) ReadsEvent _ (λ r h. (h.0, (h.1, (h.2, (h.3, (h.4, tt)))))) events_read _ rows
     are_readable Read.events_within = rows_hold db params (tree_of_events l) _ _ (event_bare l db) ReadsEvent _ (λ r h. (h.0, (h.1, (h.2, (h.3, (h.4, tt)))))) events_read _ rows
     are_readable Read.events_after = rows_hold db params (tree_of_events l) _ _ (event_bare l db) ReadsEvent _ (λ r h. (h.0, (h.1, (h.2, (h.3, (h.4, tt)))))) events_read _ rows

@@ -44,7 +44,6 @@ read_takes Read.last_run = 0
 read_takes Read.requested = 1
 read_takes Read.open_run = 1
 read_takes Read.open_numbers = 2
-read_takes Read.all_events = 0
 read_takes Read.events_until = 1
 read_takes Read.events_within = 2
 read_takes Read.events_after = 1

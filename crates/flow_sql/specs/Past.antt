@@ -2,7 +2,7 @@
 -- other tables are ours.
 use Rattle.std.specs.Prelude.{None, ◌≡◌, ◌⊎◌, ◌∷◌}
 use Rattle.flow_sql.specs.Names.{Database, EventRow, Int, Integer, Text, Kind, List, Query, Row, Schema, State, Table, Tables, Trees, Words, IsTrue, Bool, true, HasCleanDisk, bytes, codes, col, column, created, event_id, events_of, map, pos, rising, ℕ, ℤ, []}
-use Rattle.flow_sql.specs.Layout.{Fresh, Moved, schema_of, Read, meta, no_schema, outbox, past, query_of, read_sql, rows_where, run, text, timer, upward}
+use Rattle.flow_sql.specs.Layout.{Fresh, Moved, schema_of, Read, after_given, meta, no_schema, outbox, past, query_of, read_sql, rows_where, run, text, timer, until_given, upward}
 use Rattle.sqlite.specs.Change.{KeepsRows}
 use Rattle.flow_sql.specs.States.{AreLaid, IsLaidOut, LieAs}
 use Rattle.flow_sql.specs.Stored.{kinds_of, number_at, tables_by}
@@ -51,22 +51,34 @@ HoldsPast inside s = HasCleanDisk s → IsOverPast inside s
 
 pub data PastRead : Type 0 where
   past_texts : PastRead
-  past_runs : PastRead
-  past_events : PastRead
+  past_runs_until : PastRead
+  past_runs_within : PastRead
+  past_runs_after : PastRead
+  past_events_until : PastRead
+  past_events_within : PastRead
+  past_events_after : PastRead
   past_timers : PastRead
   past_tasks : PastRead
 
 abbrev pub past_sql : PastRead → List ℕ
 past_sql past_texts = read_sql Read.all_texts
-past_sql past_runs = read_sql Read.all_runs
-past_sql past_events = codes "SELECT run, id, kind, body FROM event ORDER BY run, id"
+past_sql past_runs_until = read_sql Read.runs_until
+past_sql past_runs_within = read_sql Read.runs_within
+past_sql past_runs_after = read_sql Read.runs_after
+past_sql past_events_until = codes "SELECT run, id, kind, body FROM event WHERE run <= ?1 ORDER BY run, id"
+past_sql past_events_within = codes "SELECT run, id, kind, body FROM event WHERE run > ?1 AND run <= ?2 ORDER BY run, id"
+past_sql past_events_after = codes "SELECT run, id, kind, body FROM event WHERE run > ?1 ORDER BY run, id"
 past_sql past_timers = read_sql Read.all_timers
 past_sql past_tasks = read_sql Read.all_tasks
 
 abbrev pub past_query : PastRead → Query
 past_query past_texts = query_of Fresh Read.all_texts
-past_query past_runs = query_of Fresh Read.all_runs
-past_query past_events = rows_where 5 [] (col 1 1 ∷ col 1 2 ∷ col 1 3 ∷ col 1 4 ∷ []) ((col 1 1, upward) ∷ (col 1 2, upward) ∷ [])
+past_query past_runs_until = query_of Fresh Read.runs_until
+past_query past_runs_within = query_of Fresh Read.runs_within
+past_query past_runs_after = query_of Fresh Read.runs_after
+past_query past_events_until = rows_where 5 (until_given 1 0 ∷ []) (col 1 1 ∷ col 1 2 ∷ col 1 3 ∷ col 1 4 ∷ []) ((col 1 1, upward) ∷ (col 1 2, upward) ∷ [])
+past_query past_events_within = rows_where 5 (after_given 1 0 ∷ until_given 1 1 ∷ []) (col 1 1 ∷ col 1 2 ∷ col 1 3 ∷ col 1 4 ∷ []) ((col 1 1, upward) ∷ (col 1 2, upward) ∷ [])
+past_query past_events_after = rows_where 5 (after_given 1 0 ∷ []) (col 1 1 ∷ col 1 2 ∷ col 1 3 ∷ col 1 4 ∷ []) ((col 1 1, upward) ∷ (col 1 2, upward) ∷ [])
 past_query past_timers = query_of Fresh Read.all_timers
 past_query past_tasks = query_of Fresh Read.all_tasks
 
@@ -79,10 +91,26 @@ past_row_kinds = Integer ∷ Integer ∷ Integer ∷ Text ∷ []
 
 abbrev pub past_kinds : PastRead → List Kind
 past_kinds past_texts = kinds_of Read.all_texts
-past_kinds past_runs = kinds_of Read.all_runs
-past_kinds past_events = past_row_kinds
+past_kinds past_runs_until = kinds_of Read.runs_until
+past_kinds past_runs_within = kinds_of Read.runs_within
+past_kinds past_runs_after = kinds_of Read.runs_after
+past_kinds past_events_until = past_row_kinds
+past_kinds past_events_within = past_row_kinds
+past_kinds past_events_after = past_row_kinds
 past_kinds past_timers = kinds_of Read.all_timers
 past_kinds past_tasks = kinds_of Read.all_tasks
+
+-- how many values are given with it
+abbrev pub past_takes : PastRead → ℕ
+past_takes past_texts = 0
+past_takes past_runs_until = 1
+past_takes past_runs_within = 2
+past_takes past_runs_after = 1
+past_takes past_events_until = 1
+past_takes past_events_within = 2
+past_takes past_events_after = 1
+past_takes past_timers = 0
+past_takes past_tasks = 0
 
 ---- The move
 

@@ -6,7 +6,7 @@ use Rattle.flow_base.specs.Syntax.{Bytes}
 use Rattle.flow_base.specs.declared.fault.Damage.{Damage}
 use Rattle.flow_base.specs.declared.fault.Fault.TheVariants.{Unknown}
 use Rattle.flow_tables.specs.Owned.{IsCurrent, IsHeld}
-use Rattle.flow_sql.specs.Past.{HasPast, PastRead, drop_events_sql, past_kinds, past_schema, past_sql}
+use Rattle.flow_sql.specs.Past.{HasPast, PastRead, drop_events_sql, past_kinds, past_schema, past_sql, past_takes}
 use Rattle.sqlite.specs.declared.error.ErrorCode.TheVariants as code
 use Rattle.flow_rows.specs.Damages.{event_place, task_place, timer_place}
 use Rattle.flow_rows.specs.Rows.{Two, rows_of}
@@ -109,7 +109,7 @@ IsMet {S} g e =
     ⊎ (QueriesRow sql [] (state g old) (state g new) (Err e)
     ⊎ (((r : Read) × (params : Row) × (read_takes r ≡ length params) × (read_sql r ≡ sql) × IsReadFault (kinds_of r) sql params (state g old) (state g new) (read.Refused e))
     ⊎ (((row : Row) × QueriesRow sql [] (state g old) (state g new) (Ok row) × IsReadError 0 (column row 0) e)
-    ⊎ (((r : PastRead) × (past_sql r ≡ sql) × IsReadFault (past_kinds r) sql [] (state g old) (state g new) (read.Refused e))
+    ⊎ (((r : PastRead) × (params : Row) × (past_takes r ≡ length params) × (past_sql r ≡ sql) × IsReadFault (past_kinds r) sql params (state g old) (state g new) (read.Refused e))
     ⊎ (((r : EventRow) × (sql ≡ write_sql Write.insert_event) × Executes sql (event_params r) (state g old) (state g new) (Err e))
     ⊎ ((run : ℤ) × (sql ≡ drop_events_sql) × Executes sql (Int run ∷ []) (state g old) (state g new) (Err e))))))))
 
