@@ -20,7 +20,7 @@ _flow() {
         *:work:--settings:* | *:serve:--settings:*) _flow_files toml "$word" ;;
         *:work:*:-*) _flow_words '--settings --leave-unknown' "$word" ;;
         *:serve:*:-*) _flow_words --settings "$word" ;;
-        *:drive:*:-*) _flow_words --batch "$word" ;;
+        *:drive:*:-*) _flow_words '--batch --cache' "$word" ;;
         2:check:* | [23]:safe:* | [23]:settle:* | 2:replay:*) _flow_files flow "$word" ;;
         3:replay:*) COMPREPLY=($(compgen -f -- "$word")) && compopt -o filenames 2>/dev/null ;;
         2:drive:* | 2:work:* | 2:serve:* | 2:history:* | 2:open:* | 2:verify:*) _flow_files db "$word" ;;

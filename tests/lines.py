@@ -201,6 +201,7 @@ def over_memory(tally, case):
     tally.check(f"{case.what}: its status", wanted[0], case.status)
     for size in BATCHES:
         tally.check(f"{case.what}, over memory in batches of {size}", flow(["drive", "-", "--batch", str(size)], lines), wanted)
+    tally.check(f"{case.what}, where one position is kept", flow(["drive", "-", "--cache", "1"], lines), wanted)
     tally.check(f"{case.what}, without the last line feed", flow(["drive", "-"], lines[:-1]), wanted)
 
 

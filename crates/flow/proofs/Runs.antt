@@ -30,5 +30,5 @@ either (Err f) P Q on h = on f h
 
 -- nothing was served, and nothing has changed
 pub unrun : {S W I : Type 0} (a : Activities) (g : Ghosts S) (w : W → Option (List ℕ)) (prints : W → Type 0) (lends : Result I Error → Type 0) (now : Keeping S) (f : Fault) → IsUnserved lends f → RunsWith a g w prints lends now now (Err f)
-unrun (activities.Inside leave) g w prints lends now f why = record { served = tt; ends = inr (why, refl); found = refl; follows = (refl, λ fit. fit) }
+unrun (activities.Inside leave) g w prints lends now f why = (record { served = tt; ends = inr (why, refl); found = refl; follows = (refl, λ fit. fit) }, inr (f, (refl, (why, refl))))
 unrun activities.Outside g w prints lends now f why = (record { served = tt; ends = inr (why, refl); found = refl; follows = (refl, λ fit. fit) }, inr (f, (refl, (why, refl))))

@@ -1,4 +1,4 @@
--- The settings of a running engine.
+-- The settings of an engine.
 use Rattle.std.specs.Prelude.{◌≡◌, ◌⊎◌, ℕ, List, Option, Some, None, Result, String, string_bytes}
 use Rattle.std.specs.declared.io.Error.{Error}
 use Rattle.flow_base.specs.declared.fault.Fault.TheVariants as fault
@@ -8,6 +8,13 @@ use Rattle.flow_cli.specs.Reasons.{early_of, EndsBy}
 use Rattle.flow_cli.specs.declared.reason.Early.{Early}
 use Rattle.flow_cli.specs.declared.reason.Reason.{Reason}
 use Rattle.flow_cli.specs.declared.reason.Reason.TheVariants as reason
+use Rattle.flow_cli.specs.declared.work.Work.{Work}
+use Rattle.flow_cli.specs.declared.work.Work.TheVariants as work
+
+-- a drive keeps as many positions as it says, and who asks for a history as many as usually
+abbrev pub settings_for : Work → Chosen
+settings_for (work.Drive most kept) = chosen 16 4 kept
+settings_for (work.History run) = chosen 16 4 256
 
 -- it is of this file, if it is of any
 abbrev pub IsOfSettings : List ℕ → Reason → Type 0

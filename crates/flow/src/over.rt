@@ -3,6 +3,8 @@ ghost use Rattle.std.specs.Prelude.{◌≡◌, Ok, Err};
 ghost use Rattle.sqlite.specs.Steps.{over_memory};
 ghost use Rattle.flow_base.specs.declared.fault.Fault.TheVariants as faults;
 ghost use Rattle.flow_cli.specs.Reasons.{early_of};
+ghost use Rattle.flow_settings.specs.Allowed.{chosen};
+ghost use Rattle.flow.specs.Configured.{settings_for};
 ghost use Rattle.flow.specs.Over.{Asks, IsOnFile, OverFile, OverMemory, OverNamed, Verifies};
 ghost use Rattle.flow.specs.Working.{Lists, Performed};
 
@@ -11,6 +13,7 @@ use crate::standard::{listed, performed};
 use crate::store::{open_file, open_memory};
 use crate::system::System;
 use flow_base::fault::Fault;
+use flow_cli::cache::CacheSize;
 use flow_cli::reason::Early;
 use flow_cli::totals::tell_totals;
 use flow_cli::work::Work;
@@ -20,6 +23,26 @@ use flow_model::answer::Answering;
 use flow_settings::settings::Settings;
 use sqlite::{Alter, MemStore};
 use std::alloc::Global;
+
+/// The usual settings with so many positions.
+fn caching(cache: CacheSize) -> Settings
+    ensures { result ≡ chosen 16 4 cache }
+{
+    match Settings::new(16, 4, cache.get() as usize) {
+        Some(settings) => settings,
+        None => Settings::usual(),
+    }
+}
+
+/// The settings by which it is done.
+fn settings_by(work: &Work) -> Settings
+    ensures { result ≡ settings_for work.now }
+{
+    match work {
+        Work::Drive(_, cache) => caching(*cache),
+        Work::History(_) => Settings::usual(),
+    }
+}
 
 /// Does it over the store in a file.
 fn work_in_file<H: System, O: Output>(
@@ -33,7 +56,7 @@ fn work_in_file<H: System, O: Output>(
         (λ first last. Performed ⟦<Engine<H::Base> as Answering>⟧ H.Lines.LineSource O.Output
         (H.gives system.now) work.now first last output.old output.new) result }
 {
-    let mut engine = open_file(alloc, system, file, Settings::usual())?;
+    let mut engine = open_file(alloc, system, file, settings_by(work))?;
     let outcome = performed(alloc, system, &mut engine, output, work);
     let mut held = Some(engine.close());
     system.close(&mut held);
@@ -73,7 +96,7 @@ fn work_over_file<H: System, O: Output>(
         (H.gives system.now) work.now first last output.old output.new)) result }
 {
     match work {
-        Work::Drive(_) => work_in_file(alloc, system, output, file, work),
+        Work::Drive(_, _) => work_in_file(alloc, system, output, file, work),
         Work::History(_) => ask_file(alloc, system, output, file, work),
     }
 }
@@ -88,7 +111,7 @@ fn work_over_memory<H: System, O: Output>(
         (λ first last. Performed ⟦<Engine<MemStore> as Answering>⟧ H.Lines.LineSource O.Output
         (H.gives system.now) work.now first last output.old output.new) result }
 {
-    let mut engine = open_memory(alloc, Settings::usual())?;
+    let mut engine = open_memory(alloc, settings_by(work))?;
     early(performed(alloc, system, &mut engine, output, work))
 }
 

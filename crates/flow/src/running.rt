@@ -2,7 +2,7 @@
 ghost use Rattle.std.specs.Prelude.{◌≡◌, [], Ok, IfOk, IfErr, option_map};
 ghost use Rattle.sqlite.specs.Steps.{over_memory};
 ghost use Rattle.flow.specs.Over.{OverFile, OverMemory, OverNamed};
-ghost use Rattle.flow.specs.Running.{HasSettings, IsUnlent, Prints, Runs, RunsWith};
+ghost use Rattle.flow.specs.Running.{HasSettings, IsUnlent, Prints, Replies, Runs, RunsWith};
 
 use crate::ends::early;
 use crate::settings::settings_in;
@@ -92,15 +92,17 @@ fn run_inside<H: System, S: Alter, T: Threads + Wait + Clock + Copy + Send + Dro
     leave_unknown: bool,
 ) -> Result<u8, Fault>
     requires { engine.old.log ≡ [] }
-    ensures { Runs S.Store (H.lends system.now) engine.old engine.new result }
+    ensures runs { Runs S.Store (H.lends system.now) engine.old engine.new result }
+    ensures replies { Replies S.Store H.Replies.contents (H.prints system.now) (H.lends system.now) engine.old engine.new result }
 {
     let unknown = unknown_to(system, leave_unknown);
+    let output = system.replies();
     match work_shown(
         threads,
         alloc,
         engine,
         reader,
-        system.replies(),
+        output,
         system.terminal(),
         unknown,
         settings,

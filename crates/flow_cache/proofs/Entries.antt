@@ -9,7 +9,7 @@ use Rattle.lru.proofs.Splits.{Contains-cons}
 use Rattle.flow_base.specs.Syntax.{Program, End}
 use Rattle.flow_run.specs.declared.stance.Stance.{Stance}
 use Rattle.flow_cache.specs.declared.positions.Entry.{Entry}
-use Rattle.flow_cache.specs.Entries.{Entries, Kept, HasEvents, IsAt, IsKept, entry_of, used, used_by, others_by, with_entry}
+use Rattle.flow_cache.specs.Entries.{Entries, Kept, HasEvents, IsAt, IsKept, entry_of, used, used_by, others_by, with_entry, without_entry}
 use Rattle.flow_cache.specs.Laws.{Rule, AllHave, FoundHasIt, UsedHaveIt, KeptHaveIt}
 
 -- what the kit's cache keeps
@@ -50,6 +50,9 @@ ends_as_used run key is c n becomes = rw (becomes, is, used_is_promoted run c.en
 
 pub ends_as_kept : (run key : ℕ) → key ≡ run → (e : Entry) (c n : LruCache ℕ Entry) → n ≡ lru_cache (put_entries nat_eq c key e) c.cap → kept_of n ≡ with_entry run e (kept_of c)
 ends_as_kept run key is e c n becomes = rw (becomes, is, kept_is_put run e c) refl
+
+pub ends_as_without : (run key : ℕ) → key ≡ run → (c n : LruCache ℕ Entry) → n ≡ lru_cache (remove_entry (nat_eq key) c.entries) c.cap → kept_of n ≡ without_entry run (kept_of c)
+ends_as_without run key is c n becomes = rw (becomes, is) refl
 
 pub entry_at : (run key : ℕ) → key ≡ run → (es : Entries) (o : Option Entry) → o ≡ lookup (nat_eq key) es → entry_of run es ≡ o
 entry_at run key is es o found = rw is at (sym found)
@@ -115,3 +118,7 @@ others_have P run k (Some e) all = same_have P k.entries (remove_entry (nat_eq r
 
 pub kept_have_it : (P : Rule) → KeptHaveIt P
 kept_have_it P run e k all one = one_more_has P run e (others_by (entry_of run k.entries) run k) one (others_have P run k (entry_of run k.entries) all)
+
+-- where a run's entry is let go, what is left was there
+pub without_within : (run : ℕ) (k : Kept) (e : ℕ × Entry) → Contains (without_entry run k).entries e → Contains k.entries e
+without_within run k = Contains-remove_entry (nat_eq run) k.entries

@@ -56,6 +56,10 @@ abbrev pub others_by : Option Entry → ℕ → Kept → Entries
 others_by None run k = take (k.capacity - 1) k.entries
 others_by (Some e) run k = remove_entry (nat_eq run) k.entries
 
+-- without the entry of a run
+abbrev pub without_entry : ℕ → Kept → Kept
+without_entry run k = record { entries = remove_entry (nat_eq run) k.entries; capacity = k.capacity }
+
 -- a position is kept in front
 abbrev pub with_entry : ℕ → Entry → Kept → Kept
 with_entry run e k = record { entries = (run, e) ∷ others_by (entry_of run k.entries) run k; capacity = k.capacity }

@@ -1,7 +1,7 @@
 ghost use Rattle.std.specs.Prelude.{◌≡◌, ◌≤◌, ◌≢◌, ◌⊎◌, [], length, IfOk, IfErr, IfSome, IsSome, Some, None, true, false};
 ghost use Rattle.std.specs.Borrow.{sem};
 ghost use Rattle.flow_run.specs.declared.stance.Stance.{Stance as AStance};
-ghost use Rattle.flow_cache.specs.Entries.{IsAt, IsKept, HasOneARun, entry_of, used, with_entry};
+ghost use Rattle.flow_cache.specs.Entries.{IsAt, IsKept, HasOneARun, entry_of, used, with_entry, without_entry};
 ghost use Rattle.flow_cache.specs.Lent.{ends_as};
 
 use flow_base::fault::Fault;
@@ -92,6 +92,13 @@ impl Positions {
             Ok(old) => drop(old),
             Err(refused) => drop(refused),
         }
+    }
+
+    /// The position of a run is let go, if it has one.
+    pub fn let_go(&mut self, run: RunId)
+        ensures { self.new ≡ without_entry run self.old }
+    {
+        drop(self.cache.pop_entry(&run.get()));
     }
 
     /// How many are kept.

@@ -106,6 +106,37 @@ fn the_run_not_used_longest_makes_room(rt: HostRuntime) -> Result<(), Fail> {
     Ok(())
 }
 
+// What is found once the position of the second of four runs is let go, which has made room, and then that of the third.
+fn let_two_go(kept: &mut Kept) -> Option<([Option<i64>; 4], [Option<i64>; 4])> {
+    keep_four(kept)?;
+    kept.positions.let_go(RunId::new(2)?);
+    let without_second = found(kept);
+    kept.positions.let_go(RunId::new(3)?);
+    Some((without_second, found(kept)))
+}
+
+fn two_let_go(alloc: Global) -> (Option<([Option<i64>; 4], [Option<i64>; 4])>, usize) {
+    let Some(mut kept) = with_room(alloc, 3) else {
+        return (None, 0);
+    };
+    let found = let_two_go(&mut kept);
+    (found, kept.positions.len())
+}
+
+#[test]
+fn a_run_lets_its_own_position_go(rt: HostRuntime) -> Result<(), Fail> {
+    let (found, count) = two_let_go(rt.alloc());
+    assert!(rt;
+        found
+            == Some((
+                [Some(10), None, Some(30), Some(40)],
+                [Some(10), None, None, Some(40)]
+            ))
+    );
+    assert_eq!(rt; count, 2);
+    Ok(())
+}
+
 #[test]
 fn one_position_is_the_last_one(rt: HostRuntime) -> Result<(), Fail> {
     let (used, found, count) = four_among(rt.alloc(), 1);

@@ -22,7 +22,7 @@ drive_is_taken : fault_of flow (codes "flow" ∷ codes "drive" ∷ codes "-" ∷
 unfolding clap_on_literals
 drive_is_taken = refl
 
-drive_says : call_in (codes "flow" ∷ codes "drive" ∷ codes "-" ∷ []) ≡ Some (Drive (codes "-") 1)
+drive_says : call_in (codes "flow" ∷ codes "drive" ∷ codes "-" ∷ []) ≡ Some (Drive (codes "-") 1 256)
 unfolding clap_on_literals
 drive_says = refl
 
@@ -30,11 +30,11 @@ batch_is_taken : fault_of flow (codes "flow" ∷ codes "drive" ∷ codes "-" ∷
 unfolding clap_on_literals
 batch_is_taken = refl
 
-batch_says : call_in (codes "flow" ∷ codes "drive" ∷ codes "-" ∷ codes "--batch" ∷ codes "64" ∷ []) ≡ Some (Drive (codes "-") 64)
+batch_says : call_in (codes "flow" ∷ codes "drive" ∷ codes "-" ∷ codes "--batch" ∷ codes "64" ∷ []) ≡ Some (Drive (codes "-") 64 256)
 unfolding clap_on_literals
 batch_says = refl
 
-batch_before : call_in (codes "flow" ∷ codes "drive" ∷ codes "--batch=3" ∷ codes "-" ∷ []) ≡ Some (Drive (codes "-") 3)
+batch_before : call_in (codes "flow" ∷ codes "drive" ∷ codes "--batch=3" ∷ codes "-" ∷ []) ≡ Some (Drive (codes "-") 3 256)
 unfolding clap_on_literals
 batch_before = refl
 
@@ -45,6 +45,26 @@ no_batch_of_0 = refl
 no_batch_of_65 : call_in (codes "flow" ∷ codes "drive" ∷ codes "-" ∷ codes "--batch" ∷ codes "65" ∷ []) ≡ None
 unfolding clap_on_literals
 no_batch_of_65 = refl
+
+cache_is_taken : fault_of flow (codes "flow" ∷ codes "drive" ∷ codes "-" ∷ codes "--cache" ∷ codes "4096" ∷ []) ≡ []
+unfolding clap_on_literals
+cache_is_taken = refl
+
+cache_says : call_in (codes "flow" ∷ codes "drive" ∷ codes "-" ∷ codes "--cache" ∷ codes "4096" ∷ []) ≡ Some (Drive (codes "-") 1 4096)
+unfolding clap_on_literals
+cache_says = refl
+
+cache_behind_batch : call_in (codes "flow" ∷ codes "drive" ∷ codes "--batch=3" ∷ codes "--cache=1" ∷ codes "-" ∷ []) ≡ Some (Drive (codes "-") 3 1)
+unfolding clap_on_literals
+cache_behind_batch = refl
+
+no_cache_of_0 : call_in (codes "flow" ∷ codes "drive" ∷ codes "-" ∷ codes "--cache" ∷ codes "0" ∷ []) ≡ None
+unfolding clap_on_literals
+no_cache_of_0 = refl
+
+no_cache_of_4097 : call_in (codes "flow" ∷ codes "drive" ∷ codes "-" ∷ codes "--cache" ∷ codes "4097" ∷ []) ≡ None
+unfolding clap_on_literals
+no_cache_of_4097 = refl
 
 history_is_taken : fault_of flow (codes "flow" ∷ codes "history" ∷ codes "a" ∷ codes "12" ∷ []) ≡ []
 unfolding clap_on_literals

@@ -6,7 +6,7 @@ use Rattle.clap.specs.Simple.{on_top}
 use Rattle.clap.specs.ValueTests.{is_unsigned_in}
 use Rattle.std.specs.Str.Parse.{digits_value, without_leading_plus}
 
--- ---- the program: `flow check FILE`, `flow drive DB [--batch N]`, `flow history DB RUN`, `flow open DB`, `flow replay FILE HISTORY`,
+-- ---- the program: `flow check FILE`, `flow drive DB [--batch N] [--cache N]`, `flow history DB RUN`, `flow open DB`, `flow replay FILE HISTORY`,
 -- ---- `flow safe OLD NEW`, `flow serve DB [--settings FILE]`, `flow settle OLD NEW`, `flow verify DB` and `flow work DB [--settings FILE] [--leave-unknown]`
 
 -- an argument with one value, which has to be there
@@ -40,8 +40,12 @@ over_base name = with_one name (codes "DB")
 abbrev pub batch : Rule
 batch = record (new_rule (codes "batch")) { long = Some (codes "batch"); defaults = codes "1" ∷ []; action = Some Set }
 
+-- how many positions of runs are kept in memory; 256 where nothing is said
+abbrev pub cache : Rule
+cache = record (new_rule (codes "cache")) { long = Some (codes "cache"); defaults = codes "256" ∷ []; action = Some Set }
+
 abbrev pub drive : App
-drive = with_rule (over_base (codes "drive")) batch
+drive = with_rule (with_rule (over_base (codes "drive")) batch) cache
 
 abbrev pub history : App
 history = with_two (codes "history") (codes "DB") (codes "RUN")
@@ -94,7 +98,7 @@ pub data Call : Type 0 where
   Safe : (old new : Text) → Call
   Settle : (old new : Text) → Call
   Replay : (file history : Text) → Call
-  Drive : Text → ℕ → Call
+  Drive : Text → (most kept : ℕ) → Call
   History : Text → ℕ → Call
   Open : Text → Call
   Verify : Text → Call
@@ -111,6 +115,9 @@ run_in word = number_in 9223372036854775807 word
 abbrev pub batch_in : Text → Option ℕ
 batch_in word = number_in 64 word
 
+abbrev pub cache_in : Text → Option ℕ
+cache_in word = number_in 4096 word
+
 abbrev pub safe_in : List Row → Option Call
 safe_in rows = option_and_then (λ old. option_map (Safe old) (first_of (codes "NEW") rows)) (first_of (codes "OLD") rows)
 
@@ -121,7 +128,7 @@ abbrev pub replay_in : List Row → Option Call
 replay_in rows = option_and_then (λ file. option_map (Replay file) (first_of (codes "HISTORY") rows)) (first_of (codes "FILE") rows)
 
 abbrev pub drive_in : List Row → Option Call
-drive_in rows = option_and_then (λ base. option_and_then (λ word. option_map (Drive base) (batch_in word)) (first_of (codes "batch") rows)) (first_of (codes "DB") rows)
+drive_in rows = option_and_then (λ base. option_and_then (λ most. option_map (Drive base most) (option_and_then cache_in (first_of (codes "cache") rows))) (option_and_then batch_in (first_of (codes "batch") rows))) (first_of (codes "DB") rows)
 
 abbrev pub history_in : List Row → Option Call
 history_in rows = option_and_then (λ base. option_and_then (λ word. option_map (History base) (run_in word)) (first_of (codes "RUN") rows)) (first_of (codes "DB") rows)

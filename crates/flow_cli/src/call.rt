@@ -3,10 +3,11 @@ ghost use Rattle.std.specs.Prelude.{◌≡◌, ◌⊎◌, IfOk, IfErr, false, ma
 ghost use Rattle.clap.specs.Words.{app_of, rule_of, found_of, rows_of, first_of, subcommand_rows_of};
 ghost use Rattle.clap.specs.declared.builder.command.Command.TheViews.{out-Command as fields_of};
 ghost use Rattle.clap.specs.declared.error.kind.ErrorKind.TheVariants.{OutOfMemory};
-ghost use Rattle.flow_cli.specs.Calls.{flow, answering, over_lines, over_files, over_texts, with_one, with_two, drive, work, serve, settings, leave_unknown, needed, batch, run_in, batch_in, safe_in, settle_in, replay_in, drive_in, history_in, is_set, work_in, serve_in, named_call, IsCall};
+ghost use Rattle.flow_cli.specs.Calls.{flow, answering, over_lines, over_files, over_texts, with_one, with_two, drive, work, serve, settings, leave_unknown, needed, batch, cache, run_in, batch_in, cache_in, safe_in, settle_in, replay_in, drive_in, history_in, is_set, work_in, serve_in, named_call, IsCall};
 ghost use Rattle.flow_cli.specs.Calls.{Call as Pure};
 ghost use Rattle.flow_cli.specs.Shown.{shown};
 
+use crate::cache::CacheSize;
 use crate::work::Work;
 use clap::error::ErrorKind;
 use clap::{Arg, ArgAction, ArgMatches, Command};
@@ -101,6 +102,17 @@ fn batch_arg<'a>(alloc: Global) -> Arg<'a>
         .action(ArgAction::Set)
 }
 
+/// How many positions of runs are kept; as many as settings usually say where nothing is said.
+fn cache_arg<'a>(alloc: Global) -> Arg<'a>
+    ensures rule { rule_of result ≡ cache }
+    ensures local { result.global ≡ false }
+{
+    Arg::new(alloc, "cache")
+        .long("cache")
+        .default_value("256")
+        .action(ArgAction::Set)
+}
+
 fn drive_command<'a>(alloc: Global) -> Result<Command<'a>, AllocError>
     ensures app { IfOk result (λ c. app_of c ≡ drive) }
     ensures local { IfOk result (λ c. (fields_of c).has_globals ≡ false) }
@@ -108,7 +120,8 @@ fn drive_command<'a>(alloc: Global) -> Result<Command<'a>, AllocError>
     Ok(
         Command::new(alloc, "drive")
             .arg(needed_arg(alloc, "DB"))?
-            .arg(batch_arg(alloc))?,
+            .arg(batch_arg(alloc))?
+            .arg(cache_arg(alloc))?,
     )
 }
 
@@ -246,6 +259,16 @@ fn batch_of(word: &str) -> Option<BatchSize>
     }
 }
 
+/// How many positions are kept, written out as the number of a run.
+fn cache_of(word: &str) -> Option<CacheSize>
+    ensures { result ≡ cache_in word.now }
+{
+    match word.parse::<u64>() {
+        Ok(number) => CacheSize::new(number),
+        Err(_) => None,
+    }
+}
+
 fn safe_call<'a>(found: &ArgMatches<'a>) -> Option<Call<'a>>
     ensures { option_map shown result ≡ safe_in (rows_of (found_of found.now)) }
 {
@@ -275,7 +298,8 @@ fn drive_call<'a>(found: &ArgMatches<'a>) -> Option<Call<'a>>
 {
     let base = text_of(found, "DB")?;
     let most = batch_of(text_of(found, "batch")?)?;
-    Some(Call::Over(base, Work::Drive(most)))
+    let cache = cache_of(text_of(found, "cache")?)?;
+    Some(Call::Over(base, Work::Drive(most, cache)))
 }
 
 fn history_call<'a>(found: &ArgMatches<'a>) -> Option<Call<'a>>

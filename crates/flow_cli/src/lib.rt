@@ -1,6 +1,7 @@
 //! The programs: what words, lines and files mean to `flow`, and what it answers.
 #![tactic(auto)]
 
+pub mod cache;
 pub mod call;
 pub mod change;
 pub mod check;

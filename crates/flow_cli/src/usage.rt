@@ -47,7 +47,7 @@ pub fn usage(call: Option<CallName>) -> &'static str
         Some(CallName::Safe) => "  flow safe OLD NEW\n",
         Some(CallName::Settle) => "  flow settle OLD NEW\n",
         Some(CallName::Replay) => "  flow replay FILE HISTORY\n",
-        Some(CallName::Drive) => "  flow drive DB [--batch N]\n",
+        Some(CallName::Drive) => "  flow drive DB [--batch N] [--cache N]\n",
         Some(CallName::Work) => "  flow work DB [--settings FILE] [--leave-unknown]\n",
         Some(CallName::Serve) => "  flow serve DB [--settings FILE]\n",
         Some(CallName::History) => "  flow history DB RUN\n",
@@ -58,7 +58,7 @@ pub fn usage(call: Option<CallName>) -> &'static str
             \x20 flow safe OLD NEW\n\
             \x20 flow settle OLD NEW\n\
             \x20 flow replay FILE HISTORY\n\
-            \x20 flow drive DB [--batch N]\n\
+            \x20 flow drive DB [--batch N] [--cache N]\n\
             \x20 flow work DB [--settings FILE] [--leave-unknown]\n\
             \x20 flow serve DB [--settings FILE]\n\
             \x20 flow history DB RUN\n\

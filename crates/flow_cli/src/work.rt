@@ -10,6 +10,7 @@ ghost use Rattle.flow_cli.specs.Histories.{TellsHistory, BeginsHistory, HasNoRun
 ghost use Rattle.flow_lines.specs.Stopping.{CausedFault, StoppedBy};
 ghost use Rattle.flow_cli.specs.Working.{OfWork};
 
+use crate::cache::CacheSize;
 use crate::history::tell_history;
 use flow_base::fault::Fault;
 use flow_base::number::RunId;
@@ -23,8 +24,8 @@ use std::alloc::Global;
 /// What is done over an open store.
 #[derive(Clone, Copy, Debug)]
 pub enum Work {
-    /// Command lines are answered, so many commands together.
-    Drive(BatchSize),
+    /// Command lines are answered, so many commands together; so many positions of runs are kept meanwhile.
+    Drive(BatchSize, CacheSize),
     /// The history of a run is told.
     History(RunId),
 }
@@ -82,7 +83,7 @@ pub fn perform<I: LineSource, O: Output, E: Answering>(
     ensures follows { (a : E) → E.follows a engine.old → E.follows a engine.new }
 {
     match work {
-        Work::Drive(most) => drive_lines(alloc, engine, input, output, *most),
+        Work::Drive(most, _cache) => drive_lines(alloc, engine, input, output, *most),
         Work::History(run) => tell_history(alloc, engine, output, *run),
     }
 }

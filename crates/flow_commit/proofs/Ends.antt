@@ -95,7 +95,7 @@ pub ends_on : (W V : Type 0) (U T : ViewFault → Type 0) (e : End) → (W → V
 ends_on W V U T (end.Kept reply) stop cut h = tt
 ends_on W V U T (end.Refused (fault.NoMemory _)) stop cut h = tt
 ends_on W V U T (end.Refused fault.StoreRefused) stop cut h = stop h
-ends_on W V U T (end.Unknown f) stop cut h = cut f h
+ends_on W V U T (end.Unknown f _) stop cut h = cut f h
 
 pub refused_for : (W : Type 0) (U : ViewFault → Type 0) (f : ViewFault) → (f ≡ fault.StoreRefused → W) → EndsFor W U (end.Refused f)
 refused_for W U (fault.NoMemory _) h = tt

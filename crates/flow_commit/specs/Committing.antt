@@ -27,13 +27,13 @@ use Rattle.flow_commit.specs.Stamps.{IsStampOf}
 abbrev pub EndsAs : {S : Type 0} → Ghosts S → Stored S → Book → List Command → End → Type 0
 EndsAs g new b cs (end.Kept rs) = (rs.items ≡ replies rules b cs) × Keeps (state_of g new) (after rules b cs)
 EndsAs g new b cs (end.Refused f) = Keeps (state_of g new) b
-EndsAs g new b cs (end.Unknown f) = LeavesEither (state_of g new) b (after rules b cs) × (IsUp g new → Keeps (state_of g new) b)
+EndsAs g new b cs (end.Unknown f _) = LeavesEither (state_of g new) b (after rules b cs) × (IsUp g new → Keeps (state_of g new) b)
 
 -- one that was committed has so many replies
 abbrev pub HasReplies : ℕ → End → Type 0
 HasReplies count (end.Kept rs) = length rs.items ≡ count
 HasReplies count (end.Refused f) = Unit {0}
-HasReplies count (end.Unknown f) = Unit {0}
+HasReplies count (end.Unknown f _) = Unit {0}
 
 ---- Why nothing is kept
 
@@ -72,7 +72,7 @@ WasCutOff {S} g old new f =
 -- a transaction that was to apply commands has these causes where it was given up for E80, and where nobody knows
 abbrev pub EndsFor : Type 0 → (ViewFault → Type 0) → End → Type 0
 EndsFor stopped unknown (end.Refused fault.StoreRefused) = stopped
-EndsFor stopped unknown (end.Unknown f) = unknown f
+EndsFor stopped unknown (end.Unknown f _) = unknown f
 EndsFor stopped unknown _ = Unit {0}
 
 -- behind so many commands, the last of a batch would have a place past the last number

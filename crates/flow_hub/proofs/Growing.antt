@@ -1,8 +1,9 @@
 -- What is known only grows.
-use Rattle.std.proofs.Common.{◌≡◌, ◌≤◌, ◌<◌, List, [], ◌∷◌, ◌++◌, length, map, refl, sym, ap, ◌∙◌, subst, arith, le_trans, append_assoc, length-append}
+use Rattle.std.proofs.Common.{ℕ, ◌≡◌, ◌≤◌, ◌<◌, List, [], ◌∷◌, ◌++◌, length, map, refl, sym, ap, ◌∙◌, subst, arith, le_trans, append_assoc, length-append}
 use Rattle.std.proofs.lemmas.List.{append-nil}
 use mathlib.Core.List.{IsPrefix}
 use Rattle.flow_base.specs.declared.code.Code.{Code}
+use Rattle.flow_base.specs.declared.fault.Fault.{Fault}
 use Rattle.flow_base.specs.declared.submission.Receipt.{Receipt}
 use Rattle.flow_base.specs.declared.submission.Taken.{Taken}
 use Rattle.flow_commit.specs.Accounts.{Accounted}
@@ -71,7 +72,7 @@ before_all k = record {
 }
 
 pub same_part : (k : HubFacts) → IsSamePart k k
-same_part k = record { history = refl; refused = refl; last = refl; held = refl; ended = refl; posted = refl; boarded = refl; outlook = refl }
+same_part k = record { history = refl; refused = refl; last = refl; held = refl; takes = refl; ended = refl; posted = refl; boarded = refl; outlook = refl; skipped = refl }
 
 -- two that agree with a third on the publisher's part agree
 pub part_of : (x now y k : HubFacts) → IsSamePart x now → y ≡ now → IsSamePart k y → IsSamePart x k
@@ -80,10 +81,12 @@ part_of x now y k p e q = record {
   refused = p.refused ∙ (ap (λ (l : HubFacts). l.refused) (sym e) ∙ sym q.refused);
   last = p.last ∙ (ap (λ (l : HubFacts). l.last) (sym e) ∙ sym q.last);
   held = p.held ∙ (ap (λ (l : HubFacts). l.held) (sym e) ∙ sym q.held);
+  takes = p.takes ∙ (ap (λ (l : HubFacts). l.takes) (sym e) ∙ sym q.takes);
   ended = p.ended ∙ (ap (λ (l : HubFacts). l.ended) (sym e) ∙ sym q.ended);
   posted = p.posted ∙ (ap (λ (l : HubFacts). l.posted) (sym e) ∙ sym q.posted);
   boarded = p.boarded ∙ (ap (λ (l : HubFacts). l.boarded) (sym e) ∙ sym q.boarded);
   outlook = p.outlook ∙ (ap (λ (l : HubFacts). l.outlook) (sym e) ∙ sym q.outlook);
+  skipped = p.skipped ∙ (ap (λ (l : HubFacts). l.skipped) (sym e) ∙ sym q.skipped);
 }
 
 ---- Each change lets it grow
@@ -101,8 +104,8 @@ asks_on k t = record {
   given = prefix_self k.given;
 }
 
-pub takes_on : (k : HubFacts) (xs : List Taken) → IsBefore k (with_taken k xs)
-takes_on k xs = record {
+pub takes_on : (k : HubFacts) (xs : List Taken) (left : ℕ) → IsBefore k (with_taken k xs left)
+takes_on k xs left = record {
   asked = prefix_self k.asked;
   history = prefix_self k.history;
   refused = prefix_self k.refused;
@@ -217,8 +220,8 @@ posts_on k ts outlook = record {
   given = prefix_self k.given;
 }
 
-pub skips_on : (k : HubFacts) → IsBefore k (with_skipped k)
-skips_on k = record {
+pub skips_on : (k : HubFacts) (f : Fault) → IsBefore k (with_skipped k f)
+skips_on k f = record {
   asked = prefix_self k.asked;
   history = prefix_self k.history;
   refused = prefix_self k.refused;
@@ -246,19 +249,19 @@ gives_on k t = record {
 ---- What a submitter changes, hub and lock included, isn't the publisher's
 
 pub asks_part : (k : HubFacts) (t : Taken) → IsSamePart (with_ask k t) k
-asks_part k t = record { history = refl; refused = refl; last = refl; held = refl; ended = refl; posted = refl; boarded = refl; outlook = refl }
+asks_part k t = record { history = refl; refused = refl; last = refl; held = refl; takes = refl; ended = refl; posted = refl; boarded = refl; outlook = refl; skipped = refl }
 
 pub fetches_part : (k : HubFacts) → IsSamePart (with_fetched k) k
-fetches_part k = record { history = refl; refused = refl; last = refl; held = refl; ended = refl; posted = refl; boarded = refl; outlook = refl }
+fetches_part k = record { history = refl; refused = refl; last = refl; held = refl; takes = refl; ended = refl; posted = refl; boarded = refl; outlook = refl; skipped = refl }
 
 pub enrolls_part : (k : HubFacts) → IsSamePart (with_member k) k
-enrolls_part k = record { history = refl; refused = refl; last = refl; held = refl; ended = refl; posted = refl; boarded = refl; outlook = refl }
+enrolls_part k = record { history = refl; refused = refl; last = refl; held = refl; takes = refl; ended = refl; posted = refl; boarded = refl; outlook = refl; skipped = refl }
 
 pub closes_part : (k : HubFacts) → IsSamePart (with_closed k) k
-closes_part k = record { history = refl; refused = refl; last = refl; held = refl; ended = refl; posted = refl; boarded = refl; outlook = refl }
+closes_part k = record { history = refl; refused = refl; last = refl; held = refl; takes = refl; ended = refl; posted = refl; boarded = refl; outlook = refl; skipped = refl }
 
 pub gives_part : (k : HubFacts) (t : Task) → IsSamePart (with_given k t) k
-gives_part k t = record { history = refl; refused = refl; last = refl; held = refl; ended = refl; posted = refl; boarded = refl; outlook = refl }
+gives_part k t = record { history = refl; refused = refl; last = refl; held = refl; takes = refl; ended = refl; posted = refl; boarded = refl; outlook = refl; skipped = refl }
 
 -- the same of equal ones
 pub grows_by : (k l m n : HubFacts) → k ≡ l → n ≡ m → IsBefore l m → IsBefore k n

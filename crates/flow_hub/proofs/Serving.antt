@@ -77,4 +77,4 @@ boarded_together old new was k t log base same = record {
 }
 
 pub same_history : (was k : HubFacts) → IsSamePart was k → IsSameHistory was k
-same_history was k same = record { history = sym same.history; refused = sym same.refused; last = sym same.last; held = sym same.held; ended = sym same.ended }
+same_history was k same = record { history = sym same.history; refused = sym same.refused; last = sym same.last; held = sym same.held; takes = sym same.takes; ended = sym same.ended }

@@ -1,9 +1,10 @@
 -- Each call keeps the hall sound.
-use Rattle.std.proofs.Common.{◌≡◌, ℕ, suc, ◌+◌, true, List, [], ◌∷◌, ◌++◌, length, map, refl, ap, sym, ◌∙◌, subst, arith, length-append, append_assoc, Option, Some, None, slice_get, take, drop}
+use Rattle.std.proofs.Common.{◌≡◌, ℕ, suc, ◌+◌, ◌≤◌, ◌<◌, true, List, [], ◌∷◌, ◌++◌, length, map, refl, ap, sym, ◌∙◌, subst, arith, length-append, append_assoc, Option, Some, None, slice_get, take, drop}
 use Rattle.std.specs.Prelude.{All}
 use Rattle.std.proofs.lemmas.List.{append-nil}
 use Rattle.std.proofs.lemmas.List.Elements.{All-append, All-weaker, All-push, All-head, All-tail, All-nil, All-cons, All-take, All-drop}
 use Rattle.flow_base.specs.declared.code.Code.{Code}
+use Rattle.flow_base.specs.declared.fault.Fault.{Fault}
 use Rattle.flow_base.specs.declared.command.Command.{Command}
 use Rattle.flow_base.specs.declared.submission.Receipt.{Receipt}
 use Rattle.flow_base.specs.declared.submission.Taken.{Taken}
@@ -17,11 +18,11 @@ use Rattle.flow_hub.specs.declared.known.BoardSummary.{BoardSummary}
 use Rattle.flow_queues.specs.declared.refused.Refused.{Refused}
 use Rattle.flow_hub.specs.Asks.{ticket_in, ticket_of, ticket_gone, tickets_in, tickets_of, tickets_gone, takens_of, IsAsked, IsOwn, IsGone, IsTold, Stands}
 use Rattle.flow_queues.specs.Refusing.{refused_by}
-use Rattle.flow_hub.specs.Knowing.{IsSamePart, IsHistory, IsOver, answered_in, nothing, with_taken, with_published, with_refused, with_posted, with_skipped, with_given, with_ended}
+use Rattle.flow_hub.specs.Knowing.{IsSamePart, IsHistory, IsOver, answered_in, nothing, taken_at_once, with_taken, with_published, with_refused, with_posted, with_skipped, with_given, with_ended}
 use Rattle.flow_hub.specs.Feeding.{HasGiven, IsIdle, given_with}
 use Rattle.flow_queues.specs.Posting.{IsOnce, new_ones}
 use Rattle.flow_hub.specs.Halls.{Hall, IsSound, new_ask, submitted, took, published, refused_all, fetched_receipt, fetched_refusal, enrolled, closed, ended, posted_on, skipped, gave}
-use Rattle.flow_hub.specs.Publishing.{Answers, HasTaken, HasPublished, HasRefused, HasPosted, HasSkipped, HasEnded, IsAllTaken, IsDone}
+use Rattle.flow_hub.specs.Publishing.{Answers, HasTaken, HasPublished, HasRefused, HasPosted, HasSkipped, HasEnded, IsAllTaken, IsDone, IsWhole, TakesAll}
 use Rattle.flow_queues.proofs.Once.{still_once}
 use Rattle.flow_hub.proofs.Lists.{map-both, length-mapped, from_same, long_same, count_from-next, count_split, rises_higher, rises_on, rises_without, tickets_same, get_front, get_next, stands_on, stand_next}
 
@@ -113,7 +114,7 @@ takes h xs rest is s =
     }
 
 -- what the publisher's seat has of what was taken
-pub has_taken : (h : Hall) (was : HubFacts) (xs rest : List Taken) → h.waiting ≡ xs ++ rest → IsSound h → IsSamePart was h.known → HasTaken was (with_taken h.known xs) xs
+pub has_taken : (h : Hall) (was : HubFacts) (xs rest : List Taken) → h.waiting ≡ xs ++ rest → IsSound h → IsSamePart was h.known → HasTaken was (with_taken h.known xs (length rest)) xs
 has_taken h was xs rest is s same =
     let held = h.known.held in
     let first = answered_in h.known in
@@ -130,10 +131,43 @@ has_taken h was xs rest is s same =
       posted = sym same.posted;
       boarded = sym same.boarded;
       outlook = sym same.outlook;
+      skipped = sym same.skipped;
+      left = length rest;
+      takes = ap (λ ts. ts ++ taken_at_once xs (length rest)) (sym same.takes);
       asked = all_front (IsAsked h.known.asked) xs rest (subst (All (IsAsked h.known.asked)) is s.pending);
       order = here ∙ from_same (first + length held) (answered_in was + length was.held) (length xs)
           (omega (arith, ap length same.history, ap length same.refused, ap length same.held));
     }
+
+whole : (most : ℕ) (xs rest : List Taken) → (length xs < most → rest ≡ []) → All (IsWhole most) (taken_at_once xs (length rest))
+whole most [] rest all = All-nil (IsWhole most)
+whole most (x ∷ xs) rest all = All-cons (IsWhole most) (record { taken = length (x ∷ xs); left = length rest }) [] (λ less. ap length (all less)) (All-nil (IsWhole most))
+
+-- what was taken at once is all that waited, or so many
+pub takes_all : (most : ℕ) (was k : HubFacts) (xs rest : List Taken) → IsSamePart was k → (length xs < most → rest ≡ []) → TakesAll most was (with_taken k xs (length rest))
+takes_all most was k xs rest same all = record {
+  more = taken_at_once xs (length rest);
+  are = ap (λ ts. ts ++ taken_at_once xs (length rest)) (sym same.takes);
+  each = whole most xs rest all;
+}
+
+pub takes_all_by : (most : ℕ) (was k l : HubFacts) → k ≡ l → TakesAll most was l → TakesAll most was k
+takes_all_by most was k l e t = subst (λ x. TakesAll most was x) (sym e) t
+
+pub takes_all_since : (most : ℕ) (j k l : HubFacts) → IsSamePart j k → TakesAll most k l → TakesAll most j l
+takes_all_since most j k l same t = record { more = t.more; are = t.are ∙ ap (λ ts. ts ++ t.more) (sym same.takes); each = t.each }
+
+-- where nothing was taken
+pub takes_none : (most : ℕ) (old new : HubFacts) → new.takes ≡ old.takes → TakesAll most old new
+takes_none most old new same = record { more = []; are = same ∙ sym (append-nil old.takes); each = All-nil (IsWhole most) }
+
+-- and behind what was
+pub takes_then : (most : ℕ) (old mid new : HubFacts) → TakesAll most old mid → TakesAll most mid new → TakesAll most old new
+takes_then most old mid new s t = record {
+  more = s.more ++ t.more;
+  are = t.are ∙ (ap (λ ts. ts ++ t.more) s.are ∙ append_assoc old.takes s.more t.more);
+  each = All-append (IsWhole most) s.more t.more s.each t.each;
+}
 
 -- where nothing waits, all is answered or taken
 pub all_taken : (h : Hall) → h.waiting ≡ [] → IsSound h → IsAllTaken h.known
@@ -220,11 +254,13 @@ has_published l was stamp rs same a = record {
   log = ap (λ h. h ++ rs) (sym same.history) ∙ sym a.log;
   last = refl;
   held = refl;
+  takes = sym same.takes;
   refused = sym same.refused;
   ended = sym same.ended;
   posted = sym same.posted;
   boarded = refl;
   outlook = refl;
+  skipped = sym same.skipped;
 }
 
 pub history_by : (k l : HubFacts) → k ≡ l → IsHistory l → IsHistory k
@@ -329,12 +365,14 @@ pub has_refused : (l was : HubFacts) (xs : List Taken) (code : Code) → IsSameP
 has_refused l was xs code same = record {
   refused = ap (λ r. r ++ map (refused_by code) xs) (sym same.refused);
   held = refl;
+  takes = sym same.takes;
   history = sym same.history;
   last = sym same.last;
   ended = sym same.ended;
   posted = sym same.posted;
   boarded = refl;
   outlook = refl;
+  skipped = sym same.skipped;
 }
 
 pub enrolls : (h : Hall) → IsSound h → IsSound (enrolled h)
@@ -419,8 +457,8 @@ posts h ts outlook s = record {
   gone_rises = s.gone_rises;
 }
 
-pub skips : (h : Hall) → IsSound h → IsSound (skipped h)
-skips h s = record {
+pub skips : (h : Hall) (f : Fault) → IsSound h → IsSound (skipped h f)
+skips h f s = record {
   legal = record { kept = s.legal.kept; rising = s.legal.rising };
   order = s.order;
   counts = s.counts;
@@ -463,18 +501,20 @@ gives h t rest is s = record {
 pub has_posted : (l was : HubFacts) (board : Boarded) → IsSamePart was l
     → HasPosted was (with_posted l (new_ones l.posted board.tasks) (record { due = board.due; open_runs = board.open_runs })) board
 has_posted l was board same = record {
-  rest = record { history = sym same.history; refused = sym same.refused; last = sym same.last; held = sym same.held; ended = sym same.ended };
+  rest = record { history = sym same.history; refused = sym same.refused; last = sym same.last; held = sym same.held; takes = sym same.takes; ended = sym same.ended };
   posted = ap (λ ts. ts ++ new_ones ts board.tasks) (sym same.posted);
   boarded = refl;
   outlook = refl;
+  skipped = sym same.skipped;
 }
 
-pub has_skipped : (l was : HubFacts) → IsSamePart was l → HasSkipped was (with_skipped l)
-has_skipped l was same = record {
-  rest = record { history = sym same.history; refused = sym same.refused; last = sym same.last; held = sym same.held; ended = sym same.ended };
+pub has_skipped : (l was : HubFacts) (f : Fault) → IsSamePart was l → HasSkipped was (with_skipped l f) f
+has_skipped l was f same = record {
+  rest = record { history = sym same.history; refused = sym same.refused; last = sym same.last; held = sym same.held; takes = sym same.takes; ended = sym same.ended };
   posted = sym same.posted;
   boarded = refl;
   outlook = sym same.outlook;
+  skipped = ap (λ fs. f ∷ fs) (sym same.skipped);
 }
 
 pub has_ended : (l was : HubFacts) → IsSamePart was l → HasEnded was (with_ended l)
@@ -484,9 +524,11 @@ has_ended l was same = record {
   refused = sym same.refused;
   last = sym same.last;
   held = sym same.held;
+  takes = sym same.takes;
   posted = sym same.posted;
   boarded = sym same.boarded;
   outlook = sym same.outlook;
+  skipped = sym same.skipped;
 }
 
 -- what the giver's seat has of what was given out
@@ -525,6 +567,9 @@ taken_since j k l xs same t = record {
   posted = t.posted ∙ sym same.posted;
   boarded = t.boarded ∙ sym same.boarded;
   outlook = t.outlook ∙ sym same.outlook;
+  skipped = t.skipped ∙ sym same.skipped;
+  left = t.left;
+  takes = t.takes ∙ ap (λ ts. ts ++ taken_at_once xs t.left) (sym same.takes);
   asked = t.asked;
   order = t.order ∙ from_same (answered_in k + length k.held) (answered_in j + length j.held) (length xs)
       (omega (arith, ap length same.history, ap length same.refused, ap length same.held));
@@ -547,13 +592,15 @@ none_taken j k l xs none same t = record {
   posted = same.posted ∙ sym t.posted;
   boarded = same.boarded ∙ sym t.boarded;
   outlook = same.outlook ∙ sym t.outlook;
+  takes = same.takes ∙ sym (t.takes ∙ (ap (λ x. k.takes ++ taken_at_once x t.left) none ∙ append-nil k.takes));
+  skipped = same.skipped ∙ sym t.skipped;
 }
 
 pub posted_by : (was k l : HubFacts) (board : Boarded) → k ≡ l → HasPosted was l board → HasPosted was k board
 posted_by was k l board e t = subst (λ x. HasPosted was x board) (sym e) t
 
-pub skipped_by : (was k l : HubFacts) → k ≡ l → HasSkipped was l → HasSkipped was k
-skipped_by was k l e t = subst (λ x. HasSkipped was x) (sym e) t
+pub skipped_by : (was k l : HubFacts) (f : Fault) → k ≡ l → HasSkipped was l f → HasSkipped was k f
+skipped_by was k l f e t = subst (λ x. HasSkipped was x f) (sym e) t
 
 pub ended_by : (was k l : HubFacts) → k ≡ l → HasEnded was l → HasEnded was k
 ended_by was k l e t = subst (λ x. HasEnded was x) (sym e) t

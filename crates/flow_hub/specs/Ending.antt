@@ -1,5 +1,5 @@
 -- Until when to wait for a task, and what has come where none is given.
-use Rattle.std.specs.Prelude.{◌≡◌, true}
+use Rattle.std.specs.Prelude.{◌≡◌, true, false}
 use Rattle.flow_hub.specs.declared.fed.Fed.{Fed}
 use Rattle.flow_hub.specs.declared.fed.Fed.TheVariants as fed
 use Rattle.flow_hub.specs.declared.fed.Until.{Until}
@@ -11,6 +11,12 @@ abbrev pub HasCome : Until → HubFacts → Type 0
 HasCome until.There k = ⊥
 HasCome until.Rung k = Unit {0}
 HasCome until.Boarded k = k.boarded ≡ true
+
+-- what is waited for hasn't come; of a ring nothing is known
+abbrev pub IsAwaited : Until → HubFacts → Type 0
+IsAwaited until.There k = Unit {0}
+IsAwaited until.Rung k = Unit {0}
+IsAwaited until.Boarded k = k.boarded ≡ false
 
 -- and where nothing is given, that has
 abbrev pub EndsAt : Until → HubFacts → Fed → Type 0

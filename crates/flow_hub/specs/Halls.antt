@@ -2,6 +2,7 @@
 use Rattle.std.specs.Prelude.{ℕ, ◌+◌, ◌≡◌, List, [], ◌∷◌, ◌++◌, length, map, All, refl}
 use Rattle.std.specs.Coded.{Coded, code_by, coded×, coded_ℕ}
 use Rattle.flow_base.specs.declared.code.Code.{Code}
+use Rattle.flow_base.specs.declared.fault.Fault.{Fault}
 use Rattle.flow_base.specs.declared.command.Command.{Command}
 use Rattle.flow_base.specs.declared.submission.Receipt.{Receipt}
 use Rattle.flow_base.specs.declared.submission.Taken.{Taken}
@@ -67,7 +68,7 @@ submitted h c = record h { known = with_ask h.known (new_ask h c); waiting = h.w
 
 -- these are taken, and the rest waits on
 abbrev pub took : Hall → List Taken → List Taken → Hall
-took h xs rest = record h { known = with_taken h.known xs; waiting = rest }
+took h xs rest = record h { known = with_taken h.known xs (length rest); waiting = rest }
 
 -- the receipts answer all that was taken
 abbrev pub published : Hall → Accounted → List Receipt → Hall
@@ -97,8 +98,8 @@ ended h = record h { known = with_ended h.known }
 abbrev pub posted_on : Hall → List Task → BoardSummary → Hall
 posted_on h ts outlook = let more = new_ones h.known.posted ts in record h { known = with_posted h.known more outlook; tasks = h.tasks ++ more }
 
-abbrev pub skipped : Hall → Hall
-skipped h = record h { known = with_skipped h.known }
+abbrev pub skipped : Hall → Fault → Hall
+skipped h f = record h { known = with_skipped h.known f }
 
 -- a task is given out, and the rest waits on
 abbrev pub gave : Hall → Task → List Task → Hall

@@ -7,4 +7,5 @@ pub mod Refusals
 pub mod Publishing
 pub mod Feeding
 pub mod Submitting
+pub mod Ticketing
 pub mod Waking

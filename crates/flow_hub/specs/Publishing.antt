@@ -1,6 +1,7 @@
 -- What the publisher does.
-use Rattle.std.specs.Prelude.{◌≡◌, ◌+◌, true, false, List, [], ◌∷◌, ◌++◌, length, map, All, Some, None}
+use Rattle.std.specs.Prelude.{ℕ, ◌≡◌, ◌+◌, ◌<◌, true, false, List, [], ◌∷◌, ◌++◌, length, map, All, Some, None}
 use Rattle.flow_base.specs.declared.code.Code.{Code}
+use Rattle.flow_base.specs.declared.fault.Fault.{Fault}
 use Rattle.flow_base.specs.declared.submission.Receipt.{Receipt}
 use Rattle.flow_base.specs.declared.submission.Taken.{Taken}
 use Rattle.flow_commit.specs.Accounts.{Accounted}
@@ -8,10 +9,11 @@ use Rattle.flow_commit.specs.Keeping.{count_from}
 use Rattle.flow_commit.specs.Stamps.{Stamped}
 use Rattle.flow_commit.specs.Boards.{Boarded}
 use Rattle.flow_hub.specs.declared.known.HubFacts.{HubFacts}
+use Rattle.flow_hub.specs.declared.known.TakeFacts.{TakeFacts}
 use Rattle.flow_queues.specs.Posting.{HasKeys, new_ones}
 use Rattle.flow_hub.specs.Asks.{IsAsked, tickets_in, takens_of}
 use Rattle.flow_queues.specs.Refusing.{refused_by}
-use Rattle.flow_hub.specs.Knowing.{IsOver, answered_in}
+use Rattle.flow_hub.specs.Knowing.{IsOver, answered_in, taken_at_once}
 
 -- What the keeper has kept is what the publisher has published, over the same book and file, and nothing is taken.
 pub record Together (keeper : Accounted) (k : HubFacts) : Type 0 where
@@ -35,8 +37,21 @@ pub record HasTaken (old new : HubFacts) (xs : List Taken) : Type 0 where
   pub posted : new.posted ≡ old.posted
   pub boarded : new.boarded ≡ old.boarded
   pub outlook : new.outlook ≡ old.outlook
+  pub skipped : new.skipped ≡ old.skipped
+  pub left : ℕ
+  pub takes : new.takes ≡ old.takes ++ taken_at_once xs left
   pub asked : All (IsAsked new.asked) xs
   pub order : tickets_in xs ≡ count_from (answered_in old + length old.held) (length xs)
+
+-- Fewer than so many were taken only where none was left to wait.
+abbrev pub IsWhole : ℕ → TakeFacts → Type 0
+IsWhole most t = t.taken < most → t.left ≡ 0
+
+-- What was taken since was taken together: each time so many, or all that waited.
+pub record TakesAll (most : ℕ) (old new : HubFacts) : Type 0 where
+  pub more : List TakeFacts
+  pub are : new.takes ≡ old.takes ++ more
+  pub each : All (IsWhole most) more
 
 -- All that was submitted is answered or taken.
 abbrev pub IsAllTaken : HubFacts → Type 0
@@ -61,22 +76,26 @@ pub record HasPublished (old new : HubFacts) (stamp : Stamped) (rs : List Receip
   pub log : new.history ≡ stamp.account.log
   pub last : new.last ≡ stamp.account ∷ []
   pub held : new.held ≡ []
+  pub takes : new.takes ≡ old.takes
   pub refused : new.refused ≡ old.refused
   pub ended : new.ended ≡ old.ended
   pub posted : new.posted ≡ old.posted
   pub boarded : new.boarded ≡ false
   pub outlook : new.outlook ≡ None
+  pub skipped : new.skipped ≡ old.skipped
 
 -- These are answered by a code.
 pub record HasRefused (old new : HubFacts) (xs : List Taken) (code : Code) : Type 0 where
   pub refused : new.refused ≡ old.refused ++ map (refused_by code) xs
   pub held : new.held ≡ []
+  pub takes : new.takes ≡ old.takes
   pub history : new.history ≡ old.history
   pub last : new.last ≡ old.last
   pub ended : new.ended ≡ old.ended
   pub posted : new.posted ≡ old.posted
   pub boarded : new.boarded ≡ false
   pub outlook : new.outlook ≡ None
+  pub skipped : new.skipped ≡ old.skipped
 
 -- The board was made behind all that is published, when these tasks were posted.
 pub record IsFresh (k : HubFacts) (board : Boarded) : Type 0 where
@@ -89,6 +108,7 @@ pub record IsSameHistory (old new : HubFacts) : Type 0 where
   pub refused : new.refused ≡ old.refused
   pub last : new.last ≡ old.last
   pub held : new.held ≡ old.held
+  pub takes : new.takes ≡ old.takes
   pub ended : new.ended ≡ old.ended
 
 -- Those of the board's tasks are posted that weren't posted before, each once and in their order, and it says what is open.
@@ -97,13 +117,15 @@ pub record HasPosted (old new : HubFacts) (board : Boarded) : Type 0 where
   pub posted : new.posted ≡ old.posted ++ new_ones old.posted board.tasks
   pub boarded : new.boarded ≡ true
   pub outlook : new.outlook ≡ Some (record { due = board.due; open_runs = board.open_runs })
+  pub skipped : new.skipped ≡ old.skipped
 
--- There is no board this time.
-pub record HasSkipped (old new : HubFacts) : Type 0 where
+-- There is no board this time, for this fault.
+pub record HasSkipped (old new : HubFacts) (f : Fault) : Type 0 where
   pub rest : IsSameHistory old new
   pub posted : new.posted ≡ old.posted
   pub boarded : new.boarded ≡ true
   pub outlook : new.outlook ≡ old.outlook
+  pub skipped : new.skipped ≡ f ∷ old.skipped
 
 -- The publisher has closed the hub, and all else that it alone changes is as it was.
 pub record HasEnded (old new : HubFacts) : Type 0 where
@@ -112,6 +134,8 @@ pub record HasEnded (old new : HubFacts) : Type 0 where
   pub refused : new.refused ≡ old.refused
   pub last : new.last ≡ old.last
   pub held : new.held ≡ old.held
+  pub takes : new.takes ≡ old.takes
   pub posted : new.posted ≡ old.posted
   pub boarded : new.boarded ≡ old.boarded
   pub outlook : new.outlook ≡ old.outlook
+  pub skipped : new.skipped ≡ old.skipped

@@ -8,8 +8,8 @@ use Rattle.flow_hub.specs.declared.denied.Denied.TheVariants as denied
 use Rattle.flow_hub.specs.declared.known.HubFacts.{HubFacts}
 use Rattle.flow_queues.specs.declared.refused.Refused.{Refused}
 use Rattle.flow_hub.specs.declared.settled.Settled.{Settled}
-use Rattle.flow_hub.specs.declared.ticket.NotDone.{NotDone}
-use Rattle.flow_hub.specs.declared.ticket.Ticket.{Ticket}
+use Rattle.flow_hub.specs.declared.ticket.NotDoneFacts.{NotDoneFacts}
+use Rattle.flow_hub.specs.declared.ticket.TicketFacts.{TicketFacts}
 use Rattle.flow_hub.specs.declared.ticket.Why.{Why}
 use Rattle.flow_hub.specs.declared.ticket.Why.TheVariants as why
 use Rattle.flow_hub.specs.Asks.{IsAsked, IsOwn, IsTold, Stands}
@@ -52,7 +52,7 @@ IsDenied k denied.HubClosed = k.closed ≡ true
 IsDenied k denied.InboxFull = (k.closed ≡ false) × IsFull k
 
 -- The ticket is this submitter's own, and names what it submitted.
-pub record IsTicket (old new : Member) (command : Command) (t : Ticket) : Type 0 where
+pub record IsTicket (old new : Member) (command : Command) (t : TicketFacts) : Type 0 where
   pub owner : t.owner ≡ old.id
   pub asked : slice_get new.was.asked t.number ≡ Some (record { ticket = t.number; command = command })
   pub rises : length old.was.asked ≤ t.number
@@ -66,7 +66,7 @@ pub record IsFetched (old new : List ℕ) (ticket : ℕ) : Type 0 where
   pub rest : new ≡ remove old at
 
 -- The receipt is the ticket's, repeats what was submitted at it, and stands at its place in the one history.
-pub record IsReceipt (m : Member) (ticket : Ticket) (r : Receipt) : Type 0 where
+pub record IsReceipt (m : Member) (ticket : TicketFacts) (r : Receipt) : Type 0 where
   pub mine : ticket.owner ≡ m.id
   pub number : r.ticket ≡ ticket.number
   pub own : IsOwn m.was.asked r
@@ -74,12 +74,12 @@ pub record IsReceipt (m : Member) (ticket : Ticket) (r : Receipt) : Type 0 where
   pub legal : IsHistory m.was
 
 -- Another submitter's ticket comes back; or the submitter's own was answered by this code, and its command comes back.
-abbrev pub IsFor : Member → Ticket → NotDone → Why → Type 0
+abbrev pub IsFor : Member → TicketFacts → NotDoneFacts → Why → Type 0
 IsFor m ticket n why.NotMine = (ticket.owner ≢ m.id) × (n.command ≡ None)
 IsFor m ticket n (why.Refused code) =
     (ticket.owner ≡ m.id) × ((r : Refused) × (r.code ≡ code) × (r.asked.ticket ≡ ticket.number) × (n.command ≡ Some r.asked.command) × IsAsked m.was.asked r.asked × IsTold m.was.refused r)
 
-abbrev pub IsNotDone : Member → Ticket → NotDone → Type 0
+abbrev pub IsNotDone : Member → TicketFacts → NotDoneFacts → Type 0
 IsNotDone m ticket n = (n.ticket ≡ ticket) × IsFor m ticket n n.code
 
 -- Of the tickets given so many are answered by a receipt, answered by a code, taken and waiting.

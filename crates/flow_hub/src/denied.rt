@@ -2,6 +2,7 @@
 ghost use Rattle.std.specs.Prelude.{◌≡◌};
 ghost use Rattle.flow_hub.specs.Refusals.{denied_number, unseated_number};
 
+use crate::state::AllGiven;
 use flow_base::memory::NoMemory;
 
 /// Why a command isn't taken in. It comes back.
@@ -30,8 +31,9 @@ impl Denied {
 pub enum Unseated {
     #[error("E{:02} out of memory", self.number())]
     NoMemory(NoMemory),
+    /// It has given as many as it has numbers for. No other module makes one, so a call that answers it has looked.
     #[error("E{:02} inbox full", self.number())]
-    InboxFull,
+    InboxFull(AllGiven),
 }
 
 impl Unseated {
@@ -41,7 +43,7 @@ impl Unseated {
     {
         match self {
             Unseated::NoMemory(_) => 1,
-            Unseated::InboxFull => 90,
+            Unseated::InboxFull(_) => 90,
         }
     }
 }

@@ -130,8 +130,9 @@ impl<B: Room> Hub<B> {
             Err(refused) => return Err(Unseated::NoMemory(NoMemory::from(refused))),
         };
         let all = shared_in(&self.shared);
-        let Some((id, badge, seat, share)) = all.lock(rt).enroll(&all.seats) else {
-            return Err(Unseated::InboxFull);
+        let mut state = all.lock(rt);
+        let Some((id, badge, seat, share)) = state.enroll(&all.seats) else {
+            return Err(Unseated::InboxFull(state.all_given()));
         };
         Ok(Submitter::over(shared, id, badge, seat, share, unfetched))
     }

@@ -1,15 +1,17 @@
 //! What threads know of a hub.
-ghost use Rattle.std.specs.Prelude.{◌≡◌, [], ◌∷◌, ◌++◌, map};
+ghost use Rattle.std.specs.Prelude.{◌≡◌, [], ◌∷◌, ◌++◌, length, map};
 ghost use Rattle.flow_hub.specs.Knowing.{nothing, with_ask, with_taken, with_published, with_refused, with_posted, with_skipped, with_given, with_ended};
 ghost use Rattle.flow_queues.specs.Posting.{chosen};
 
 use flow_base::code::Code;
+use flow_base::fault::Fault;
 use flow_base::number::Moment;
 use flow_base::submission::{Receipt, Taken};
 use flow_base::task::Task;
 use flow_commit::account::Account;
 use flow_commit::stamp::Stamp;
 use flow_queues::refused::Refused;
+use std::collections::VecDeque;
 use unseen::{Listed, Makes};
 
 /// What a board says beside its tasks.
@@ -19,6 +21,14 @@ pub struct BoardSummary {
     pub due: Option<Moment>,
     /// How many runs are open.
     pub open_runs: u64,
+}
+
+/// What was taken at once. No value of it is made.
+pub struct TakeFacts {
+    /// How many.
+    pub taken: u64,
+    /// How many were left to wait then.
+    pub left: u64,
 }
 
 /// What threads know of a hub. Its lists are data for contracts alone.
@@ -34,6 +44,8 @@ pub struct HubFacts {
     pub last: Listed<Account>,
     /// What is taken, and not answered yet.
     pub held: Listed<Taken>,
+    /// What was taken at once, each time that something was, in their order.
+    pub takes: Listed<TakeFacts>,
     /// How many answers their submitters have fetched.
     pub fetched: u64,
     /// How many submitters the hub has given.
@@ -50,6 +62,8 @@ pub struct HubFacts {
     pub boarded: bool,
     /// What the last board says. None where what was taken was answered since it was made.
     pub outlook: Option<BoardSummary>,
+    /// For which faults boards were skipped, the last one first.
+    pub skipped: Listed<Fault>,
 }
 
 struct Empty;
@@ -76,6 +90,25 @@ impl<E> Makes<(Listed<E>, &Vec<E>), E> for Behind {
     ghost use Rattle.std.specs.Prelude.{◌++◌};
 
     ghost list = { λ p. p.0 ++ p.1.now.items };
+}
+
+/// A list, and behind it that these were taken at once where those were left.
+struct AtOnce;
+
+impl Makes<(Listed<TakeFacts>, &Vec<Taken>, &VecDeque<Taken>), TakeFacts> for AtOnce {
+    ghost use Rattle.std.specs.Prelude.{◌++◌, length};
+    ghost use Rattle.flow_hub.specs.Knowing.{taken_at_once};
+
+    ghost list = { λ p. p.0 ++ taken_at_once p.1.now.items (length p.2.now.items) };
+}
+
+/// One more, and behind it a list.
+struct Before;
+
+impl<E> Makes<(&E, Listed<E>), E> for Before {
+    ghost use Rattle.std.specs.Prelude.{◌∷◌};
+
+    ghost list = { λ p. p.0.now ∷ p.1 };
 }
 
 /// A list, and behind it these with a code.
@@ -117,6 +150,7 @@ impl HubFacts {
             refused: Listed::of::<(), Empty>(&()),
             last: Listed::of::<(), Empty>(&()),
             held: Listed::of::<(), Empty>(&()),
+            takes: Listed::of::<(), Empty>(&()),
             fetched: 0,
             members: 0,
             closed: false,
@@ -125,6 +159,7 @@ impl HubFacts {
             given: Listed::of::<(), Empty>(&()),
             boarded: false,
             outlook: None,
+            skipped: Listed::of::<(), Empty>(&()),
         }
     }
 
@@ -135,11 +170,15 @@ impl HubFacts {
         self.asked = Listed::of::<(Listed<Taken>, &Taken), OneMore>(&(self.asked.again(), taken));
     }
 
-    /// These were taken.
-    pub(crate) fn take(&mut self, taken: &Vec<Taken>)
-        ensures { self.new ≡ with_taken self.old taken.now.items }
+    /// These were taken at once, and those left to wait.
+    pub(crate) fn take(&mut self, taken: &Vec<Taken>, left: &VecDeque<Taken>)
+        ensures { self.new ≡ with_taken self.old taken.now.items (length left.now.items) }
     {
         self.held = Listed::of::<(Listed<Taken>, &Vec<Taken>), Behind>(&(self.held.again(), taken));
+        let takes = (self.takes.again(), taken, left);
+        self.takes = Listed::of::<(Listed<TakeFacts>, &Vec<Taken>, &VecDeque<Taken>), AtOnce>(
+            &takes,
+        );
     }
 
     /// What was taken is answered by the receipts of a stamp.
@@ -183,11 +222,15 @@ impl HubFacts {
         self.outlook = Some(outlook);
     }
 
-    /// No board this time.
-    pub(crate) fn skip(&mut self)
-        ensures { self.new ≡ with_skipped self.old }
+    /// No board this time, for this fault.
+    pub(crate) fn skip(&mut self, fault: &Fault)
+        ensures { self.new ≡ with_skipped self.old fault.now }
     {
         self.boarded = true;
+        self.skipped = Listed::of::<(&Fault, Listed<Fault>), Before>(&(
+            fault,
+            self.skipped.again(),
+        ));
     }
 
     /// Its publisher has closed it.

@@ -3,7 +3,7 @@ ghost use Rattle.std.specs.Prelude.{◌≡◌, ◌<◌, ◌≤◌, true, false, 
 ghost use Rattle.std.specs.Vec.{vec_capacity};
 ghost use Rattle.flow_hub.specs.Knowing.{IsBefore, IsHistory, IsSamePart};
 ghost use Rattle.flow_queues.specs.Posting.{HasKeys, IsOnce};
-ghost use Rattle.flow_hub.specs.Publishing.{Answers, HasTaken, HasPublished, HasRefused, HasPosted, HasSkipped, HasEnded, IsFresh, IsAllTaken, IsDone};
+ghost use Rattle.flow_hub.specs.Publishing.{Answers, HasTaken, HasPublished, HasRefused, HasPosted, HasSkipped, HasEnded, IsFresh, IsAllTaken, IsDone, TakesAll};
 ghost use Rattle.flow_hub.specs.Seating.{IsPublishers};
 
 use crate::feed::Feed;
@@ -65,6 +65,7 @@ fn taken<B: Room, R: Wait>(
     ensures some { result.1 ≡ true → 0 < length into.new.items }
     ensures none { result.1 ≡ false → (into.new.items ≡ []) × IsDone result.0.was }
     ensures all { length into.new.items < most → IsAllTaken result.0.was }
+    ensures whole { TakesAll most seat.was result.0.was }
     ensures seat { IsPublishers result.0 }
     ensures grows { IsBefore seat.was result.0.was }
 {
@@ -109,6 +110,7 @@ impl<B: Room> Publisher<B> {
         ensures some { result ≡ true → 0 < length into.new.items }
         ensures none { result ≡ false → (into.new.items ≡ []) × IsDone self.new }
         ensures all { length into.new.items < most → IsAllTaken self.new }
+        ensures whole { TakesAll most self.old self.new }
         ensures grows { IsBefore self.old self.new }
     {
         let shared = shared_in(&self.shared);
@@ -179,14 +181,14 @@ impl<B: Room> Publisher<B> {
         &self.keys
     }
 
-    /// There is no board this time, for this fault. It is the fault itself and no code, since nobody makes up an E01.
-    pub fn skip<R: Wait>(&mut self, rt: &R, _fault: &Fault)
-        ensures skipped { HasSkipped self.old self.new }
+    /// There is no board this time, for this fault, which stays known. It is the fault itself and no code, since nobody makes up an E01.
+    pub fn skip<R: Wait>(&mut self, rt: &R, fault: &Fault)
+        ensures skipped { HasSkipped self.old self.new fault.now }
         ensures grows { IsBefore self.old self.new }
     {
         let shared = shared_in(&self.shared);
         let me = shared.seats.leave(&mut self.seat);
-        self.seat = shared.lock(rt).skip(&shared.seats, me);
+        self.seat = shared.lock(rt).skip(&shared.seats, me, fault);
         shared.posted.notify_all();
     }
 

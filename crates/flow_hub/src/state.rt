@@ -5,7 +5,7 @@ ghost use Rattle.flow_hub.specs.Asks.{Stands, IsOwn, IsGone, IsTold};
 ghost use Rattle.flow_hub.specs.Knowing.{IsBefore, IsHistory, IsSamePart, answered_in, nothing};
 ghost use Rattle.flow_hub.specs.Seating.{opener, seeing, IsSubmitters, IsPublishers};
 ghost use Rattle.flow_hub.specs.Halls.{submitted, took, published, refused_all, fetched_receipt, fetched_refusal, enrolled, closed, ended, new_ask, unfetched};
-ghost use Rattle.flow_hub.specs.Publishing.{Answers, HasTaken, HasPublished, HasRefused, HasEnded, IsAllTaken, IsDone};
+ghost use Rattle.flow_hub.specs.Publishing.{Answers, HasTaken, HasPublished, HasRefused, HasEnded, IsAllTaken, IsDone, TakesAll};
 ghost use Rattle.flow_hub.specs.Submitting.{HasTakenIn, IsFetched, IsOpen, IsDenied, IsSettled};
 
 mod boards;
@@ -33,6 +33,13 @@ pub(crate) const MOST: usize = 1024;
 
 /// How many tickets a hub gives.
 const TICKETS: u64 = 1 << 62;
+
+/// That a hub has given all submitters that it has numbers for. Its field is this module's, and the locked state of such a hub alone
+/// makes one: so no other body can say so.
+#[derive(Clone, Copy, Debug, PartialEq, Eq)]
+pub struct AllGiven {
+    made: (),
+}
 
 /// What lies under the lock: submissions by what became of them, each list with its room, and what is known of them.
 #[derive(Drop)]
@@ -173,7 +180,7 @@ impl<B: Room> State<B> {
         ensures seat { IfSome result (λ m. m.2 ≡ seeing false false 0 self.new.known) }
         ensures share { IfSome result (λ m. (m.3.parts ≡ 1) × (m.3.amount ≡ 0)) }
         ensures parts { B.parts ≡ 2 ^ 62 }
-        ensures none { IfNone result ((self.new ≡ self.old) × (2 ^ 62 ≤ self.old.known.members)) }
+        ensures none { IfNone result ((self.new ≡ self.old) × (2 ^ 62 ≤ self.new.known.members)) }
     {
         let id = self.known.members;
         if id >= PARTS {
@@ -190,6 +197,13 @@ impl<B: Room> State<B> {
             &self.known,
         );
         Some((id, badge, seat, share))
+    }
+
+    /// That all submitters were given.
+    pub(crate) fn all_given(&self) -> AllGiven
+        requires { 2 ^ 62 ≤ self.now.known.members }
+    {
+        AllGiven { made: () }
     }
 
     /// Why no command is taken in.
@@ -264,10 +278,11 @@ impl<B: Room> State<B> {
         ensures grows { IsBefore me.was result.was }
         ensures none { into.new.items ≡ [] → self.new.known.closed ≡ true → IsDone result.was }
         ensures all { length into.new.items < most → IsAllTaken result.was }
+        ensures whole { TakesAll most me.was result.was }
     {
         move_front(&mut self.waiting, into, most);
         self.held += into.len();
-        self.known.take(into);
+        self.known.take(into, &self.waiting);
         seats.tell(&mut self.keeper, me, self.places, self.places, &self.known)
     }
 

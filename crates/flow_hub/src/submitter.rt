@@ -284,7 +284,11 @@ impl<B: Room> Submitter<B> {
     /// # Failure
     /// E91 where the hub is closed; else E90 where 1,024 submissions have an answer that wasn't fetched, or none yet, or 2^62
     /// tickets were given. The command comes back.
-    pub fn submit<R: Wait>(&mut self, rt: &R, command: Command) -> Result<Ticket, (Command, Denied)>
+    pub fn submit<R: Wait>(
+        &mut self,
+        rt: &R,
+        command: Command,
+    ) -> Result<Ticket<B>, (Command, Denied)>
         ensures ticket { IfOk result (λ t. IsTicket self.old self.new command t) }
         ensures denied { IfErr result (λ e. (e.0 ≡ command) × IsDenied self.new.was e.1 × (self.new.amount ≡ self.old.amount)) }
         ensures unfetched { MatchResult result (λ t. self.new.unfetched ≡ self.old.unfetched ++ t.number ∷ [])
@@ -303,10 +307,7 @@ impl<B: Room> Submitter<B> {
         let number = answer?;
         self.unfetched.push_reserved(number);
         shared.asked.notify_one();
-        Ok(Ticket {
-            number,
-            owner: self.id,
-        })
+        Ok(Ticket::given(number, self.id))
     }
 
     /// Waits for the receipt of a ticket. It stands at its place in the one history, whose replies are those of apply, as far as
@@ -314,7 +315,7 @@ impl<B: Room> Submitter<B> {
     ///
     /// # Failure
     /// E92 where the ticket is another submitter's; else the code that its command was answered by.
-    pub fn wait<R: Wait>(&mut self, rt: &R, ticket: Ticket) -> Result<Receipt, NotDone>
+    pub fn wait<R: Wait>(&mut self, rt: &R, ticket: Ticket<B>) -> Result<Receipt, NotDone<B>>
         ensures receipt { IfOk result (λ r. IsReceipt self.new ticket r) }
         ensures not_done { IfErr result (λ n. IsNotDone self.new ticket n) }
         ensures spent { IfErr result (λ n. (is_spent n ≡ true → ticket.owner ≡ self.old.id)

@@ -1,6 +1,6 @@
 -- What a run has reached, it has reached for good.
 use Rattle.std.proofs.Common.{◌≡◌, ℕ, zero, suc, ◌+◌, ◌-◌, List, [], ◌∷◌, ◌++◌, length, refl, sym, ap, ◌∙◌, subst, arith, Option, Some, None, length-append, append-nil, true, false}
-use Rattle.std.specs.Prelude.{slice_get, slice_set, nat_eq, if◌then◌else◌}
+use Rattle.std.specs.Prelude.{IfSome, slice_get, slice_set, nat_eq, if◌then◌else◌}
 use Rattle.std.proofs.lemmas.Option.{none-some, same_Some}
 use Rattle.std.proofs.lemmas.List.{append_assoc}
 use Rattle.std.proofs.lemmas.Bool.{eqb-true, eqb-false}
@@ -23,6 +23,8 @@ use Rattle.flow_model.proofs.Positions.{turned_is}
 use Rattle.flow_run.specs.Position.{config_of}
 use Rattle.flow_run.specs.declared.stance.Stance.{Stance}
 use Rattle.flow_machine.proofs.Places.{nth_kept, nth_place, nth_at, get_past, get_set_same}
+use Rattle.flow_machine.specs.Seated.{IsTextLed, LeadsTo}
+use Rattle.flow_machine.specs.declared.seats.Led.{Led}
 use Rattle.flow_machine.specs.Reached.{Meaning, HasReached, ReachedStays, ReachedStaysAfter, ReachedStands, StandingIsReached, TurnReaches, FirstTurnReaches}
 
 ---- How many events a standing history has
@@ -249,3 +251,11 @@ first_turn_reaches m b flow request text t p at vs cs reads leads =
       cut = sym (append-nil (turn_events 1 at (Started vs) cs));
       stands = stands_first p at (Started vs) cs (config_of p t) (turned_is p Fresh first_configuration at (Started vs) cs (config_of p t) leads);
     }
+
+-- A run that goes on under another text stands where its history does under that.
+pub text_leads : (m : Meaning) (b : Book) (run text : ℕ) (r : Run) (p : Program) (cs : List Change) (o : Option Led)
+    → nth b.runs run ≡ Some r → program_at m b text ≡ Some p → IfSome o (IsTextLed p r.history run text) → IfSome o (LeadsTo m b cs)
+text_leads m b run text r p cs None there reads led = tt
+text_leads m b run text r p cs (Some l) there reads led =
+    reached_stays m b l.run l.text l.stance cs
+    (subst (λ n. HasReached m b n l.text l.stance) (sym led.its_run) (subst (λ n. HasReached m b run n l.stance) (sym led.its_text) (standing_is_reached m b run text l.stance r p there reads led.stands)))

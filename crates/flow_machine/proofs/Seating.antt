@@ -22,15 +22,15 @@ use Rattle.flow_model.specs.Apply.{program_at}
 use Rattle.flow_run.specs.Position.{config_of}
 use Rattle.flow_run.specs.declared.stance.Stance.{Stance}
 use Rattle.flow_cache.specs.declared.positions.Entry.{Entry}
-use Rattle.flow_cache.specs.Entries.{Entries, Kept, HasEvents, used}
-use Rattle.flow_cache.proofs.Entries.{found_has_it, used_have_it, kept_have_it}
+use Rattle.flow_cache.specs.Entries.{Entries, Kept, HasEvents, used, without_entry}
+use Rattle.flow_cache.proofs.Entries.{found_has_it, used_have_it, kept_have_it, without_within}
 use Rattle.flow_view.specs.Heads.{head_of, head_if, head_at}
 use Rattle.flow_view.specs.declared.head.Head.{Head}
 use Rattle.flow_machine.proofs.GoingOn.{first_turn_reaches, reached_stands, reached_stays, turn_reaches}
 use Rattle.flow_machine.proofs.Standing.{stands_moment}
 use Rattle.flow_machine.specs.ByHead.{history_if, history_at}
 use Rattle.flow_machine.specs.Reached.{Meaning, HasReached}
-use Rattle.flow_machine.specs.Seated.{ReachedIn, FitSeats, HasNone, IsWithin, KeepsNoMore, IsSame, IsCopy, IsCopyAhead, IsPlace, Grows, KeepsOne, WasThere, Settles, LeadsTo, IsFirstLed}
+use Rattle.flow_machine.specs.Seated.{ReachedIn, FitSeats, HasNone, IsWithin, KeepsNoMore, IsSame, IsCopy, IsCopyAhead, IsPlace, Grows, KeepsOne, KeepsAll, WasThere, Settles, without_entries, LeadsTo, IsFirstLed}
 use Rattle.flow_machine.specs.declared.seats.Led.{Led}
 use Rattle.flow_machine.specs.declared.seats.Seats.{Seats}
 
@@ -165,11 +165,19 @@ none_fit m b seats none =
       ahead = λ l there. absurd (none_in l (subst (λ (ls : List Led). Contains ls l) none.ahead there));
     }
 
+-- each entry that is left was there
+within_all : (runs : List ℕ) (k : Kept) → IsWithin k.entries (without_entries runs k).entries
+within_all [] k e there = there
+within_all (run ∷ runs) k e there = without_within run k e (within_all runs (without_entry run k) e there)
+
+pub settles_all : (old new : Seats) → Settles old new → KeepsAll old.kept old.ahead.items new.kept
+settles_all old new settles e there = settles.all e (within_all old.over.items settles.between e (subst (λ (k : Kept). Contains k.entries e) settles.gone there))
+
 -- once what stands ahead is kept, all is fit that was
 pub settle_fit : (m : Meaning) (b : Book) (old new : Seats) → FitSeats m b old → Settles old new → new.ahead.items ≡ [] → FitSeats m b new
 settle_fit m b old new fit settles none =
     record {
-      kept = λ run e there. was_fit run e (settles (run, e) there);
+      kept = λ run e there. was_fit run e (settles_all old new settles (run, e) there);
       ahead = λ l there. absurd (none_in l (subst (λ (ls : List Led). Contains ls l) none there));
     }
   where

@@ -29,7 +29,8 @@ comes_as r sure u old new o p is h = subst (λ (x : Outcome). IfOk r (λ s. sure
 
 pub sticks_on : (b : Book) (s : Step) (X Y : Type 0) → (X → Y) → Sticks b s X → Sticks b s Y
 sticks_on b (step.Answered reply cs) X Y on h = h
-sticks_on b (step.Begins reply cs led) X Y on h = h
+sticks_on b (step.Leads reply cs led) X Y on h = h
+sticks_on b (step.Ends reply cs n) X Y on h = h
 sticks_on b (step.GoesOn g) X Y on h = λ stuck. on (h stuck)
 
 pub sticks_as : (r : Result Step ViewFault) (sure : Type 0) (b : Book) (X Y : Type 0) → (X → Y) → IfOk r (λ s. sure → Sticks b s X) → IfOk r (λ s. sure → Sticks b s Y)
@@ -54,7 +55,8 @@ called_as g old new r X Y on h =
 
 pub step_stuck : (b : Book) (s : Step) (X : Type 0) → Sticks b s X → IsStuckStep b s → X
 step_stuck b (step.Answered reply cs) X h stuck = absurd stuck
-step_stuck b (step.Begins reply cs led) X h stuck = absurd stuck
+step_stuck b (step.Leads reply cs led) X h stuck = absurd stuck
+step_stuck b (step.Ends reply cs n) X h stuck = absurd stuck
 step_stuck b (step.GoesOn g) X h stuck = h stuck
 
 ---- What is behind a run that can't take its input

@@ -104,7 +104,8 @@ module _ (m : Meaning) (old now : Book) (g : Going) (o : Outcome) (goes : GoesOn
 
 pub comes_still : (u : Rules) (old now : Book) (s : Step) (o : Outcome) → Comes u old now s o → now ≡ old
 comes_still u old now (step.Answered r cs) o h = h.still
-comes_still u old now (step.Begins r cs l) o h = h.0.still
+comes_still u old now (step.Leads r cs l) o h = h.0.still
+comes_still u old now (step.Ends r cs n) o h = h.still
 comes_still u old now (step.GoesOn g) o h = h.still
 
 pub fit_over : (m : Meaning) (old now : Book) (seats : Seats) → now ≡ old → FitSeats m old seats → FitSeats m now seats

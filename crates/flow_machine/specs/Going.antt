@@ -29,22 +29,25 @@ pub record GoesOn (u : Rules) (old new : Book) (g : Going) (o : Outcome) : Type 
   pub reads : program_at u.program_of old g.head.text ≡ Some (shown_checked g.program.value)
   pub outcome : o ≡ recorded_at u.limit (shown_checked g.program.value) g.head (history_at old.runs g.number) g.number g.at g.input
 
--- The command comes to the outcome, and a run that it begins to a position.
+-- The command comes to the outcome, and a run that it begins, or that goes on by it under another text, to a position.
 abbrev pub Comes : Rules → Book → Book → Step → Outcome → Type 0
 Comes u old new (step.Answered r cs) o = Finds old new r cs.items o
-Comes u old new (step.Begins r cs l) o = Finds old new r cs.items o × LeadsTo u.program_of old cs.items l
+Comes u old new (step.Leads r cs l) o = Finds old new r cs.items o × LeadsTo u.program_of old cs.items l
+Comes u old new (step.Ends r cs n) o = Finds old new r cs.items o
 Comes u old new (step.GoesOn g) o = GoesOn u old new g o
 
 -- The run can't record the input.
 abbrev pub IsStuckStep : Book → Step → Type 0
 IsStuckStep b (step.Answered r cs) = ⊥
-IsStuckStep b (step.Begins r cs l) = ⊥
+IsStuckStep b (step.Leads r cs l) = ⊥
+IsStuckStep b (step.Ends r cs n) = ⊥
 IsStuckStep b (step.GoesOn g) = CantRecord (shown_checked g.program.value) (history_at b.runs g.number) g.input
 
 -- Where the run can't record the input, this is behind it.
 abbrev pub Sticks : Book → Step → Type 0 → Type 0
 Sticks b (step.Answered r cs) stuck = Unit {0}
-Sticks b (step.Begins r cs l) stuck = Unit {0}
+Sticks b (step.Leads r cs l) stuck = Unit {0}
+Sticks b (step.Ends r cs n) stuck = Unit {0}
 Sticks b (step.GoesOn g) stuck = CantRecord (shown_checked g.program.value) (history_at b.runs g.number) g.input → stuck
 
 -- What a call over a view says if it comes to a step: which outcome it is a step to, what is stuck if its run can't record the input, and

@@ -2,6 +2,7 @@
 use Rattle.std.specs.Prelude.{◌≡◌, ◌⊎◌, ℕ, List, [], ◌∷◌, Contains, Option, Some, max}
 use Rattle.flow_base.specs.Syntax.{Program}
 use Rattle.flow_base.specs.declared.event.Cmd.{Cmd}
+use Rattle.flow_base.specs.declared.event.Event.{Event}
 use Rattle.flow_base.specs.declared.event.Input.{Input}
 use Rattle.flow_base.specs.declared.event.Input.TheVariants.{Started}
 use Rattle.flow_base.specs.declared.value.Value.{Value}
@@ -9,6 +10,7 @@ use Rattle.flow_base.specs.declared.book.Change.{Change}
 use Rattle.flow_base.specs.declared.book.Turn.{Turn}
 use Rattle.flow_base.specs.declared.book.Change.TheVariants.{AddTurn}
 use Rattle.flow_model.specs.Configuration.{first_configuration}
+use Rattle.flow_model.specs.Stands.{Stands}
 use Rattle.flow_model.specs.Turn.{Fresh}
 use Rattle.flow_model.specs.Turned.{turned}
 use Rattle.flow_view.specs.declared.head.Head.{Head}
@@ -16,7 +18,7 @@ use Rattle.flow_model.specs.Book.{Book, changed_by}
 use Rattle.flow_run.specs.Position.{config_of}
 use Rattle.flow_run.specs.declared.stance.Stance.{Stance}
 use Rattle.flow_cache.specs.declared.positions.Entry.{Entry}
-use Rattle.flow_cache.specs.Entries.{Entries, Kept, HasEvents, IsKept, with_entry}
+use Rattle.flow_cache.specs.Entries.{Entries, Kept, HasEvents, IsKept, with_entry, without_entry}
 use Rattle.flow_cache.specs.Laws.{Rule, AllHave}
 use Rattle.flow_machine.specs.Reached.{Meaning, HasReached}
 use Rattle.flow_machine.specs.declared.seats.Led.{Led}
@@ -82,8 +84,16 @@ WasThere es ls e = Contains es e ⊎ Contains ls (record { run = e.0; text = e.1
 abbrev pub KeepsAll : Kept → List Led → Kept → Type 0
 KeepsAll old ls new = (e : ℕ × Entry) → Contains new.entries e → WasThere old.entries ls e
 
-abbrev pub Settles : Seats → Seats → Type 0
-Settles old new = KeepsAll old.kept old.ahead.items new.kept
+-- without the entries of these runs
+abbrev pub without_entries : List ℕ → Kept → Kept
+without_entries [] k = k
+without_entries (run ∷ runs) k = without_entries runs (without_entry run k)
+
+-- What stood ahead is kept, and then the entries of the runs that are over are let go.
+pub record Settles (old new : Seats) : Type 0 where
+  pub between : Kept
+  pub all : KeepsAll old.kept old.ahead.items between
+  pub gone : new.kept ≡ without_entries old.over.items between
 
 -- Once these changes are made, the run has reached where its turn leads.
 abbrev pub LeadsTo : Meaning → Book → List Change → Led → Type 0
@@ -103,3 +113,9 @@ pub record IsLedBy (p : Program) (h : Head) (s : Stance) (run at : ℕ) (i : Inp
   pub its_text : l.text ≡ h.text
   pub leads : turned p Fresh (config_of p s) (max at h.moment) i ≡ Some (commands, config_of p l.stance)
   pub made : changes ≡ AddTurn run (record { at = max at h.moment; input = i; commands = commands }) ∷ rest
+
+-- Under this text the run's whole history stands at the position.
+pub record IsTextLed (p : Program) (h : List Event) (run text : ℕ) (l : Led) : Type 0 where
+  pub its_run : l.run ≡ run
+  pub its_text : l.text ≡ text
+  pub stands : Stands p h (config_of p l.stance)

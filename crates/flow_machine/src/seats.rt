@@ -2,7 +2,7 @@
 ghost use Rattle.std.specs.Prelude.{◌≡◌, ◌≤◌, ◌⊎◌, ◌∷◌, ◌++◌, [], IfOk, IfErr, IfSome, true};
 ghost use Rattle.flow_base.specs.Syntax.{Program as Tree};
 ghost use Rattle.flow_machine.specs.Reached.{Meaning};
-ghost use Rattle.flow_machine.specs.Seated.{FitSeats, Grows, HasNone, IsCopy, IsCopyAhead, IsLedAt, IsPlace, IsWithin, KeepsAll, KeepsNoMore, KeepsOne, Settles};
+ghost use Rattle.flow_machine.specs.Seated.{FitSeats, Grows, HasNone, IsCopy, IsCopyAhead, IsLedAt, IsPlace, IsWithin, KeepsAll, KeepsNoMore, KeepsOne, Settles, without_entries};
 ghost use Rattle.flow_model.specs.Book.{Book};
 ghost use Rattle.flow_run.specs.Position.{config_of};
 
@@ -39,6 +39,8 @@ pub struct Seats {
     alloc: Global,
     kept: Positions,
     ahead: Vec<Led>,
+    /// The runs that the batch closes.
+    over: Vec<RunId>,
 }
 
 impl Seats {
@@ -59,6 +61,7 @@ impl Seats {
             alloc,
             kept,
             ahead: Vec::new(alloc),
+            over: Vec::new(alloc),
         })
     }
 
@@ -76,6 +79,7 @@ impl Seats {
         ensures memory { IfErr result (λ e. e ≡ ViewFault.NoMemory _) }
         ensures no_more { KeepsNoMore self.old self.new }
         ensures ahead { self.new.ahead.items ≡ self.old.ahead.items }
+        ensures over { self.new.over.items ≡ self.old.over.items }
     {
         if let Some(stance) = ahead_at(self.alloc, &self.ahead, run, text, events)? {
             return Ok(Some(stance));
@@ -87,6 +91,7 @@ impl Seats {
     /// A position to which the batch leads. Where a growth is refused, it is let go.
     pub fn lead(&mut self, led: Led)
         ensures led { (self.new.ahead.items ≡ self.old.ahead.items ++ led ∷ []) ⊎ (self.new.ahead.items ≡ self.old.ahead.items) }
+        ensures over { self.new.over.items ≡ self.old.over.items }
         ensures kept { self.new.kept ≡ self.old.kept }
     {
         match self.ahead.push(led) {
@@ -95,34 +100,54 @@ impl Seats {
         }
     }
 
-    /// A position to which the batch leads, if it does.
-    pub(crate) fn lead_if(&mut self, led: Option<Led>)
+    /// A run that the batch closes. Where a growth is refused, its position is thrown out as any other.
+    pub(crate) fn end(&mut self, run: RunId)
+        ensures ended { (self.new.over.items ≡ self.old.over.items ++ run ∷ []) ⊎ (self.new.over.items ≡ self.old.over.items) }
+        ensures ahead { self.new.ahead.items ≡ self.old.ahead.items }
+        ensures kept { self.new.kept ≡ self.old.kept }
+    {
+        match self.over.push(run) {
+            Ok(()) => {}
+            Err(_refused) => {}
+        }
+    }
+
+    /// Where the batch leads a run: to a position, or to its end.
+    pub(crate) fn lead_or_end(&mut self, run: RunId, led: Option<Led>)
         ensures grown { Grows self.old led self.new }
+        // Of a run that goes on no position is let go.
+        ensures over { IfSome led (λ l. self.new.over.items ≡ self.old.over.items) }
         ensures kept { self.new.kept ≡ self.old.kept }
     {
         match led {
             Some(led) => self.lead(led),
-            None => {}
+            None => self.end(run),
         }
     }
 
-    /// What stands ahead is kept, once the batch is. Where a growth is refused, a position is let go.
+    /// What stands ahead is kept, once the batch is, and the positions of runs that it closes are let go. Where a growth is
+    /// refused, a position is let go.
     pub fn settle(&mut self)
         ensures settled { Settles self.old self.new }
         ensures none { self.new.ahead.items ≡ [] }
+        ensures over { self.new.over.items ≡ [] }
         // What was fit for a book is so again.
         ensures fit { (m : Meaning) (b : Book) → FitSeats m b self.old → FitSeats m b self.new }
     {
         let ahead = mem::replace(&mut self.ahead, Vec::new(self.alloc));
+        let over = mem::replace(&mut self.over, Vec::new(self.alloc));
         keep_all(&mut self.kept, ahead);
+        let_all_go(&mut self.kept, over.as_slice());
     }
 
-    /// What stands ahead is let go, where the batch isn't kept.
+    /// What stands ahead is let go, where the batch isn't kept, and each run that it closed keeps its position.
     pub fn forget(&mut self)
         ensures none { self.new.ahead.items ≡ [] }
+        ensures over { self.new.over.items ≡ [] }
         ensures kept { self.new.kept ≡ self.old.kept }
     {
         self.ahead = Vec::new(self.alloc);
+        self.over = Vec::new(self.alloc);
     }
 }
 
@@ -178,6 +203,14 @@ fn keep_all(kept: &mut Positions, ahead: Vec<Led>)
 {
     for led in ahead {
         keep(kept, led);
+    }
+}
+
+fn let_all_go(kept: &mut Positions, runs: &[RunId])
+    ensures { kept.new ≡ without_entries runs.now kept.old }
+{
+    for run in runs {
+        kept.let_go(*run);
     }
 }
 

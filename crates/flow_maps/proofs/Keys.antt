@@ -2,10 +2,10 @@
 use Rattle.std.proofs.Common.{◌≡◌, ◌-◌, ◌+◌, ℕ, zero, suc, Bool, true, false, cond, nat_eq, if◌then◌else◌, List, [], ◌∷◌, ◌++◌, length, Option, Some, None, is_some, slice_get, slice_set, bytes_eq, refl, sym, ap, subst, ◌∙◌, arith}
 use Rattle.std.specs.Prelude.{MatchBool}
 use Rattle.std.specs.Map.{update}
-use Rattle.std.specs.BTreeMap.{get_by_text}
 use Rattle.std.proofs.lemmas.Slice.Eq.{bytes_eq-Decides}
 use Rattle.flow_base.specs.Syntax.{Bytes}
 use Rattle.flow_model.specs.Book.{nth, first_from}
+use Rattle.flow_maps.specs.Names.{at_name}
 use Rattle.flow_maps.specs.declared.index.Numbers.{Numbers}
 use Rattle.flow_maps.specs.Keys.{is_key, IsOnly, key_found, Numbered}
 
@@ -107,26 +107,26 @@ no_value (Some n) h = absurd (let e = h in cc)
 pub more_without : (m m' : Numbers) (ks : List (Option Bytes)) → m'.count ≡ m.count + 1 → m'.map ≡ m.map → Numbered m ks → Numbered m' (ks ++ None ∷ [])
 more_without m m' ks count same h = record {
   count = let a = h.count in let b = longer ks None in omega (arith, count, a, b);
-  numbers = λ q. subst (λ t. IsOnly (get_by_text t q) q 1 (ks ++ None ∷ [])) (sym same) (other_more (get_by_text m.map q) q 1 ks None refl (h.numbers q));
+  numbers = λ q. subst (λ t. IsOnly (at_name t q) q 1 (ks ++ None ∷ [])) (sym same) (other_more (at_name m.map q) q 1 ks None refl (h.numbers q));
 }
 
 module _ (m m' : Numbers) (k : Bytes) (ks : List (Option Bytes)) (h : Numbered m ks) where
-  pub more_with : (number : ℕ) → is_some (get_by_text m.map k) ≡ false → m'.count ≡ m.count + 1 → number ≡ m.count + 1
-      → ((q : Bytes) → get_by_text m'.map q ≡ update bytes_eq (get_by_text m.map) k (Some number) q) → Numbered m' (ks ++ Some k ∷ [])
+  pub more_with : (number : ℕ) → is_some (at_name m.map k) ≡ false → m'.count ≡ m.count + 1 → number ≡ m.count + 1
+      → ((q : Bytes) → at_name m'.map q ≡ update bytes_eq (at_name m.map) k (Some number) q) → Numbered m' (ks ++ Some k ∷ [])
   more_with number new count at updates = record {
     count = let a = h.count in let b = longer ks (Some k) in omega (arith, count, a, b);
     numbers = λ q. subst (λ o. IsOnly o q 1 (ks ++ Some k ∷ [])) (sym (updates q)) (go q (bytes_eq k q) refl);
   }
     where
-      go : (q : Bytes) (b : Bool) → bytes_eq k q ≡ b → IsOnly (cond b (Some number) (get_by_text m.map q)) q 1 (ks ++ Some k ∷ [])
+      go : (q : Bytes) (b : Bool) → bytes_eq k q ≡ b → IsOnly (cond b (Some number) (at_name m.map q)) q 1 (ks ++ Some k ∷ [])
       go q true is =
           let same = (bytes_eq-Decides k q).0 is in
-          let none = subst (λ x. get_by_text m.map x ≡ None) same (no_value (get_by_text m.map k) new) in
+          let none = subst (λ x. at_name m.map x ≡ None) same (no_value (at_name m.map k) new) in
           own_more q 1 ks (Some k) number is (let a = h.count in omega (arith, at, a)) (subst (λ o. IsOnly o q 1 ks) none (h.numbers q))
-      go q false is = other_more (get_by_text m.map q) q 1 ks (Some k) is (h.numbers q)
+      go q false is = other_more (at_name m.map q) q 1 ks (Some k) is (h.numbers q)
 
   pub fewer : (n : ℕ) → nth ks n ≡ Some (Some k) → m'.count ≡ m.count
-      → ((q : Bytes) → get_by_text m'.map q ≡ update bytes_eq (get_by_text m.map) k None q) → Numbered m' (slice_set ks (n - 1) None)
+      → ((q : Bytes) → at_name m'.map q ≡ update bytes_eq (at_name m.map) k None q) → Numbered m' (slice_set ks (n - 1) None)
   fewer n is count updates = record {
     count = count ∙ h.count ∙ sym (same_length ks (n - 1) None);
     numbers = λ q. subst (λ o. IsOnly o q 1 (slice_set ks (n - 1) None)) (sym (updates q)) (go q (bytes_eq k q) refl);
@@ -136,9 +136,9 @@ module _ (m m' : Numbers) (k : Bytes) (ks : List (Option Bytes)) (h : Numbered m
       there true e = absurd (none_is (Some k) e)
       there false e = e
 
-      go : (q : Bytes) (b : Bool) → bytes_eq k q ≡ b → IsOnly (cond b None (get_by_text m.map q)) q 1 (slice_set ks (n - 1) None)
-      go q true own = own_gone (get_by_text m.map q) q 1 ks (n - 1) k own (there (nat_eq n 0) is) (h.numbers q)
-      go q false other = other_gone (get_by_text m.map q) q 1 ks (n - 1) k other (there (nat_eq n 0) is) (h.numbers q)
+      go : (q : Bytes) (b : Bool) → bytes_eq k q ≡ b → IsOnly (cond b None (at_name m.map q)) q 1 (slice_set ks (n - 1) None)
+      go q true own = own_gone (at_name m.map q) q 1 ks (n - 1) k own (there (nat_eq n 0) is) (h.numbers q)
+      go q false other = other_gone (at_name m.map q) q 1 ks (n - 1) k other (there (nat_eq n 0) is) (h.numbers q)
 
-pub number_found : (m : Numbers) (q : Bytes) (ks : List (Option Bytes)) → Numbered m ks → get_by_text m.map q ≡ key_found q ks
-number_found m q ks h = only_found (get_by_text m.map q) q 1 ks (h.numbers q)
+pub number_found : (m : Numbers) (q : Bytes) (ks : List (Option Bytes)) → Numbered m ks → at_name m.map q ≡ key_found q ks
+number_found m q ks h = only_found (at_name m.map q) q 1 ks (h.numbers q)

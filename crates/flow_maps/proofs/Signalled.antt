@@ -1,13 +1,13 @@
 -- What a change of a book makes of the places where signals are recorded.
 use Rattle.std.proofs.Common.{◌≡◌, ◌-◌, ◌+◌, ℕ, zero, suc, Bool, true, false, if◌then◌else◌, cond, List, [], ◌∷◌, ◌++◌, length, take, get_or, ◌<◌, Option, Some, None, is_some, slice_get, slice_set, bytes_eq, refl, sym, ap, subst, ◌∙◌, arith}
+use Rattle.std.specs.BTreeMap.{BTreeMap}
+use Rattle.std.specs.Prelude.{MatchOption}
 use Rattle.std.specs.Map.{update}
-use Rattle.std.specs.BTreeMap.{get_by_text}
 use Rattle.std.proofs.lemmas.List.{take_more}
 use Rattle.std.proofs.lemmas.Slice.Eq.{bytes_eq-Decides}
 use Rattle.flow_base.specs.Syntax.{Bytes}
 use Rattle.flow_base.specs.declared.event.Cmd.{Cmd}
 use Rattle.flow_base.specs.declared.event.Event.{Event}
-use Rattle.flow_base.specs.declared.event.Input.{Input}
 use Rattle.flow_base.specs.declared.event.Input.TheVariants as input
 use Rattle.flow_base.specs.declared.event.What.{What}
 use Rattle.flow_base.specs.declared.event.What.TheVariants.{Came, Asked}
@@ -17,9 +17,11 @@ use Rattle.flow_base.specs.declared.book.Turn.{Turn}
 use Rattle.flow_model.specs.Turned.{traces, turn_events}
 use Rattle.flow_model.specs.Book.{Book, nth, changed, with_run, with_turn, unbegun_run, signal_in, is_signal_of, is_run_of, found_in, signalled, signalled_from}
 use Rattle.flow_model.proofs.Logs.{nth_at}
-use Rattle.flow_maps.specs.declared.signals.FlowSignals.{FlowSignals}
+use Rattle.flow_maps.specs.Names.{at_name, is_name, both}
+use Rattle.flow_maps.specs.declared.signals.SignalEvents.{SignalEvents}
 use Rattle.flow_maps.specs.declared.signals.Signals.{Signals}
-use Rattle.flow_maps.specs.Signals.{at_request, asked_by, signal_of, or_later, with_history, AreOf, KnowsFlow, KnowsSignals, IsSameBut, IsTaken, KnowsBut}
+use Rattle.flow_maps.specs.Signals.{at_request, asked_by, signal_of, or_later, with_history, AreOf, KnowsSignals, IsTaken}
+use Rattle.flow_maps.proofs.Naming.{by_name, both_own, both_flow, both_request}
 use Rattle.flow_maps.proofs.Serving.{none_is_there, run_is}
 
 none_is : {A : Type 0} (x : A) → None ≡ Some x → ⊥
@@ -227,25 +229,21 @@ signal_taken b run count t r flow request at own long asks =
 
 ---- What is known
 
-knows_as : (w : Bool) (o : Option FlowSignals) (b c : Book) (f : Bytes) → ((q : Bytes) → signalled c f q ≡ signalled b f q) → KnowsFlow w o b f → KnowsFlow w o c f
-knows_as true None b c f same h = λ q. same q ∙ h q
-knows_as false None b c f same h = tt
-knows_as w (Some m) b c f same h = λ q. h q ∙ sym (same q)
+known_as : (o : Option SignalEvents) (b c : Book) → ((f q : Bytes) → signalled c f q ≡ signalled b f q) → MatchOption o (Unit {0}) (λ m. AreOf m b) → MatchOption o (Unit {0}) (λ m. AreOf m c)
+known_as None b c same h = tt
+known_as (Some m) b c same h = λ f q. h f q ∙ sym (same f q)
 
 -- all stays known
 pub stays_known : (s : Signals) (b c : Book) → ((f q : Bytes) → signalled c f q ≡ signalled b f q) → KnowsSignals s b → KnowsSignals s c
-stays_known s b c same h = λ f. knows_as s.is_whole (get_by_text s.flows f) b c f (same f) (h f)
+stays_known s b c same h = known_as s.events b c same h
 
--- nothing is listed
-pub none_listed : (s : Signals) (b : Book) → ((f : Bytes) → get_by_text s.flows f ≡ None) → b.runs ≡ [] → KnowsSignals s b
-none_listed s b empty none = λ f. subst (λ o. KnowsFlow s.is_whole o b f) (sym (empty f)) (go s.is_whole f)
-  where
-    go : (w : Bool) (f : Bytes) → KnowsFlow w None b f
-    go true f = λ q. ap (signalled_from f q 1) none
-    go false f = tt
+-- what is known, where it is
+pub known_events : (s : Signals) (m : SignalEvents) (b : Book) → s.events ≡ Some m → KnowsSignals s b → AreOf m b
+known_events s m b is h = subst (λ o. MatchOption o (Unit {0}) (λ x. AreOf x b)) is h
 
-pub nothing_listed : (s : Signals) (b : Book) → s.is_whole ≡ false → ((f : Bytes) → get_by_text s.flows f ≡ None) → KnowsSignals s b
-nothing_listed s b part empty = λ f. subst (λ o. KnowsFlow s.is_whole o b f) (sym (empty f)) (subst (λ w. KnowsFlow w None b f) (sym part) tt)
+-- nothing is recorded
+pub none_recorded : (m : SignalEvents) (b : Book) → ((f q : Bytes) → at_request m f q ≡ None) → b.runs ≡ [] → AreOf m b
+none_recorded m b empty none = λ f q. empty f q ∙ sym (ap (signalled_from f q 1) none)
 
 -- a turn with which no signal came
 pub turn_quiet : (s : Signals) (b : Book) (run : ℕ) (t : Turn) (r : Run) → nth b.runs run ≡ Some r → asked_by t.input ≡ None → KnowsSignals s b → KnowsSignals s (changed b (AddTurn run t))
@@ -276,81 +274,40 @@ first_says flow request text t f q = go (bytes_eq flow f)
 pub run_quiet : (s : Signals) (b : Book) (flow : Bytes) (request : Option Bytes) (text : ℕ) (t : Turn) → asked_by t.input ≡ None → KnowsSignals s b → KnowsSignals s (changed b (AddRun flow request text t))
 run_quiet s b flow request text t none = stays_known s b (changed b (AddRun flow request text t)) (λ f q. behind f q 1 b.runs (with_turn t (unbegun_run flow request text)) (quiet_says f q t (unbegun_run flow request text) (named_none q (asked_by t.input) none) ∙ first_says flow request text t f q))
 
--- one more run that has taken none
-pub append_quiet : (s : Signals) (b : Book) (r : Run) → ((q : Bytes) → signal_in q r.history ≡ None) → KnowsSignals s b → KnowsSignals s (record b { runs = b.runs ++ r ∷ [] })
-append_quiet s b r none = stays_known s b (record b { runs = b.runs ++ r ∷ [] }) (λ f q. behind f q 1 b.runs r (go (is_run_of f r) q))
-  where
-    go : (v : Bool) (q : Bytes) → (if v then signal_in q r.history else None) ≡ None
-    go true q = none q
-    go false q = refl
-
--- of other flows one more run says nothing
-pub append_others : (b : Book) (r : Run) (flow : Bytes) → r.flow ≡ flow → IsSameBut b (record b { runs = b.runs ++ r ∷ [] }) flow
-append_others b r flow own f other q = behind f q 1 b.runs r (ap (λ v. if v then signal_in q r.history else None) (ap (λ x. bytes_eq x f) own ∙ other))
-
--- its own flow has those too that it has taken
-pub append_known : (m m' : FlowSignals) (b : Book) (r : Run) (flow : Bytes) (run : ℕ) (h : List Event) → run ≡ length b.runs + 1 → r.flow ≡ flow → r.history ≡ h → ((q : Bytes) → at_request m' q ≡ with_history run h (at_request m) q)
-    → AreOf m b flow → AreOf m' (record b { runs = b.runs ++ r ∷ [] }) flow
-append_known m m' b r flow run h number own same more are = λ q.
+-- one more run, with those that it has taken
+pub append_known : (m m' : SignalEvents) (b : Book) (r : Run) (flow : Bytes) (run : ℕ) (h : List Event) → run ≡ length b.runs + 1 → r.flow ≡ flow → r.history ≡ h
+    → ((f q : Bytes) → at_request m' f q ≡ with_history flow run h (at_request m) f q) → AreOf m b → AreOf m' (record b { runs = b.runs ++ r ∷ [] })
+append_known m m' b r flow run h number own same more are = λ f q.
     let place : run ≡ 1 + length b.runs = omega (arith, number) in
-    let says : said flow q r ≡ signal_in q h = ap (λ v. if v then signal_in q r.history else None) (ap (λ x. bytes_eq x flow) own ∙ bytes_same flow) ∙ ap (signal_in q) same in
-    more q ∙ ap (λ o. or_later o (found_in run (signal_in q h) None)) (are q)
-    ∙ ap (λ (k : ℕ). or_later (signalled b flow q) (found_in k (signal_in q h) None)) place
-    ∙ ap (λ o. or_later (signalled b flow q) (found_in (1 + length b.runs) o None)) (sym says)
-    ∙ sym (at_end flow q 1 b.runs r)
+    let says : said f q r ≡ (if bytes_eq flow f then signal_in q h else None) = ap (λ v. if v then signal_in q r.history else None) (ap (λ x. bytes_eq x f) own) ∙ ap (λ l. if bytes_eq flow f then signal_in q l else None) same in
+    more f q ∙ ap (λ o. or_later o (found_in run (if bytes_eq flow f then signal_in q h else None) None)) (are f q)
+    ∙ ap (λ (k : ℕ). or_later (signalled b f q) (found_in k (if bytes_eq flow f then signal_in q h else None) None)) place
+    ∙ ap (λ o. or_later (signalled b f q) (found_in (1 + length b.runs) o None)) (sym says)
+    ∙ sym (at_end f q 1 b.runs r)
 
-module _ (s s' : Signals) (flow : Bytes) where
-  -- one flow isn't listed any more
-  pub without_flow : s'.is_whole ≡ s.is_whole → ((f : Bytes) → get_by_text s'.flows f ≡ update bytes_eq (get_by_text s.flows) flow None f) → (b c : Book) → IsSameBut b c flow
-      → KnowsSignals s b → KnowsBut s' c flow
-  without_flow whole updates b c others h = λ f other.
-      subst (λ w. KnowsFlow w (get_by_text s'.flows f) c f) (sym whole)
-      (subst (λ o. KnowsFlow s.is_whole o c f) (sym (updates f ∙ ap (λ v. cond v None (get_by_text s.flows f)) other))
-      (knows_as s.is_whole (get_by_text s.flows f) b c f (others f other) (h f)))
-
-  -- and nothing was known of it
-  pub unknown_flow : s'.is_whole ≡ false → s.is_whole ≡ false → ((f : Bytes) → get_by_text s'.flows f ≡ update bytes_eq (get_by_text s.flows) flow None f) → (b c : Book) → IsSameBut b c flow
-      → KnowsSignals s b → KnowsSignals s' c
-  unknown_flow part part' updates b c others h = λ f. go f (bytes_eq flow f) refl
-    where
-      go : (f : Bytes) (v : Bool) → bytes_eq flow f ≡ v → KnowsFlow s'.is_whole (get_by_text s'.flows f) c f
-      go f true is =
-          subst (λ w. KnowsFlow w (get_by_text s'.flows f) c f) (sym part)
-          (subst (λ o. KnowsFlow false o c f) (sym (updates f ∙ ap (λ v. cond v None (get_by_text s.flows f)) is)) tt)
-      go f false is = without_flow (part ∙ sym part') updates b c others h f is
-
-  -- of one flow all is known now
-  pub with_flow : (m : FlowSignals) → s'.is_whole ≡ s.is_whole → ((f : Bytes) → get_by_text s'.flows f ≡ update bytes_eq (get_by_text s.flows) flow (Some m) f) → (b : Book) → AreOf m b flow → KnowsBut s b flow → KnowsSignals s' b
-  with_flow m whole updates b are h = λ f. subst (λ w. KnowsFlow w (get_by_text s'.flows f) b f) (sym whole) (subst (λ o. KnowsFlow s.is_whole o b f) (sym (updates f)) (go f (bytes_eq flow f) refl))
-    where
-      go : (f : Bytes) (v : Bool) → bytes_eq flow f ≡ v → KnowsFlow s.is_whole (cond v (Some m) (get_by_text s.flows f)) b f
-      go f true is = subst (AreOf m b) ((bytes_eq-Decides flow f).0 is) are
-      go f false is = h f is
-
--- what is known of a flow is of it
-pub known_flow : (w : Bool) (o : Option FlowSignals) (m : FlowSignals) (b : Book) (f : Bytes) → o ≡ Some m → KnowsFlow w o b f → AreOf m b f
-known_flow w None m b f is h = absurd (none_is m is)
-known_flow w (Some n) m b f is h = subst (λ x. AreOf x b f) (some_is n m is) h
-
--- and of one that isn't listed, where all are that have taken any
-pub none_of_flow : (w : Bool) (o : Option FlowSignals) (b : Book) (f : Bytes) → w ≡ true → o ≡ None → KnowsFlow w o b f → (q : Bytes) → None ≡ signalled b f q
-none_of_flow true None b f whole none h q = sym (h q)
-none_of_flow false o b f whole none h q = absurd (clash false whole refl)
-none_of_flow true (Some m) b f whole none h q = absurd (none_is m (sym none))
-
--- all signals of a flow, with the one that was taken
-pub taken_known : (m m' : FlowSignals) (b c : Book) (flow request : Bytes) (run count : ℕ) → IsTaken b c flow run count request → at_request m request ≡ None
-    → ((q : Bytes) → at_request m' q ≡ or_later (at_request m q) (if bytes_eq request q then Some (run, count + 1) else None)) → AreOf m b flow → AreOf m' c flow
-taken_known m m' b c flow request run count taken free more are = λ q. more q ∙ go q (bytes_eq request q) refl
+-- all signals, with the one that was taken
+pub taken_known : (m m' : SignalEvents) (b c : Book) (flow request : Bytes) (run count : ℕ) → IsTaken b c flow run count request → at_request m flow request ≡ None
+    → ((f q : Bytes) → at_request m' f q ≡ or_later (at_request m f q) (if bytes_eq (both flow request) (both f q) then Some (run, count + 1) else None)) → AreOf m b → AreOf m' c
+taken_known m m' b c flow request run count taken free more are = λ f q. more f q ∙ go f q (bytes_eq flow f) refl
   where
-    go : (q : Bytes) (v : Bool) → bytes_eq request q ≡ v → or_later (at_request m q) (if v then Some (run, count + 1) else None) ≡ signalled c flow q
-    go q true is =
-        let same = (bytes_eq-Decides request q).0 is in
-        subst (λ x. or_later (at_request m x) (Some (run, count + 1)) ≡ signalled c flow x) same
-        (ap (λ o. or_later o (Some (run, count + 1))) free ∙ sym (taken.taken (sym (are request) ∙ free)))
-    go q false is = or_none (at_request m q) ∙ are q ∙ sym (taken.same q is)
+    other : (f q : Bytes) → bytes_eq (both flow request) (both f q) ≡ false → signalled c f q ≡ signalled b f q
+        → or_later (at_request m f q) (if bytes_eq (both flow request) (both f q) then Some (run, count + 1) else None) ≡ signalled c f q
+    other f q is same = ap (λ v. or_later (at_request m f q) (if v then Some (run, count + 1) else None)) is ∙ or_none (at_request m f q) ∙ are f q ∙ sym same
 
----- The signals of one flow
+    own : (q : Bytes) (v : Bool) → bytes_eq request q ≡ v → or_later (at_request m flow q) (if bytes_eq (both flow request) (both flow q) then Some (run, count + 1) else None) ≡ signalled c flow q
+    own q true is =
+        let same = (bytes_eq-Decides request q).0 is in
+        subst (λ x. or_later (at_request m flow x) (if bytes_eq (both flow request) (both flow x) then Some (run, count + 1) else None) ≡ signalled c flow x) same
+        (ap (λ v. or_later (at_request m flow request) (if v then Some (run, count + 1) else None)) (both_own flow request) ∙ ap (λ o. or_later o (Some (run, count + 1))) free ∙ sym (taken.taken (sym (are flow request) ∙ free)))
+    own q false is = other flow q (both_request flow flow request q is) (taken.same q is)
+
+    go : (f q : Bytes) (v : Bool) → bytes_eq flow f ≡ v → or_later (at_request m f q) (if bytes_eq (both flow request) (both f q) then Some (run, count + 1) else None) ≡ signalled c f q
+    go f q true is =
+        let same = (bytes_eq-Decides flow f).0 is in
+        subst (λ x. or_later (at_request m x q) (if bytes_eq (both flow request) (both x q) then Some (run, count + 1) else None) ≡ signalled c x q) same (own q (bytes_eq request q) refl)
+    go f q false is = other f q (both_flow flow f request q is) (taken.others f is q)
+
+---- The map of signals
 
 -- one more, where it isn't there yet
 pub one_more : (f g : Bytes → Option (ℕ × ℕ)) (k : Bytes) (x : ℕ × ℕ) → is_some (f k) ≡ false → ((q : Bytes) → g q ≡ update bytes_eq f k (Some x) q) → (q : Bytes) → g q ≡ or_later (f q) (if bytes_eq k q then Some x else None)
@@ -372,29 +329,57 @@ none_more f k x there q = go (bytes_eq k q) refl
     go true is = own (f q) (subst (λ y. is_some (f y) ≡ true) ((bytes_eq-Decides k q).0 is) there)
     go false is = sym (or_none (f q))
 
--- one event of a run
-pub with_event : (run : ℕ) (e : Event) (f g : Bytes → Option (ℕ × ℕ)) (k : Bytes) → signal_of e ≡ Some k → ((q : Bytes) → g q ≡ or_later (f q) (if bytes_eq k q then Some (run, e.id) else None)) → (q : Bytes) → g q ≡ with_history run (e ∷ []) f q
-with_event run e f g k is more q = more q ∙ ap (or_later (f q)) (sym (found_one run q e ∙ ap (λ o. if named q o then Some (run, e.id) else None) is))
+-- one more in the map
+pub inserted : (m n : BTreeMap Bytes (ℕ × ℕ)) (name k : Bytes) (entry x : ℕ × ℕ) → name ≡ k → entry ≡ x → is_some (at_name m name) ≡ false
+    → ((q : Bytes) → at_name n q ≡ cond (is_name name q) (Some entry) (at_name m q)) → (q : Bytes) → at_name n q ≡ or_later (at_name m q) (if bytes_eq k q then Some x else None)
+inserted m n name k entry x named same free updates q =
+    one_more (at_name m) (at_name n) name entry free (by_name (at_name m) (at_name n) name (Some entry) updates) q
+    ∙ ap (λ y. or_later (at_name m q) (if bytes_eq y q then Some entry else None)) named ∙ ap (λ y. or_later (at_name m q) (if bytes_eq k q then Some y else None)) same
 
-pub without_event : (run : ℕ) (e : Event) (f : Bytes → Option (ℕ × ℕ)) → signal_of e ≡ None → (q : Bytes) → f q ≡ with_history run (e ∷ []) f q
-without_event run e f none q = sym (or_none (f q)) ∙ ap (or_later (f q)) (sym (found_one run q e ∙ ap (λ o. if named q o then Some (run, e.id) else None) none))
+-- one event of a run
+pub with_event : (flow : Bytes) (run : ℕ) (e : Event) (g g' : Bytes → Bytes → Option (ℕ × ℕ)) (k : Bytes) → signal_of e ≡ Some k
+    → ((f q : Bytes) → g' f q ≡ or_later (g f q) (if bytes_eq (both flow k) (both f q) then Some (run, e.id) else None)) → (f q : Bytes) → g' f q ≡ with_history flow run (e ∷ []) g f q
+with_event flow run e g g' k is more f q = more f q ∙ ap (or_later (g f q)) (go (bytes_eq flow f) refl)
+  where
+    own : (v : Bool) → bytes_eq k q ≡ v → bytes_eq flow f ≡ true → (if bytes_eq (both flow k) (both f q) then Some (run, e.id) else None) ≡ found_in run (signal_in q (e ∷ [])) None
+    own true here there =
+        ap (λ v. if v then Some (run, e.id) else None) (subst (λ x. bytes_eq (both flow k) (both x q) ≡ true) ((bytes_eq-Decides flow f).0 there) (subst (λ x. bytes_eq (both flow k) (both flow x) ≡ true) ((bytes_eq-Decides k q).0 here) (both_own flow k)))
+        ∙ sym (found_one run q e ∙ ap (λ o. if named q o then Some (run, e.id) else None) is ∙ ap (λ v. if v then Some (run, e.id) else None) here)
+    own false here there =
+        ap (λ v. if v then Some (run, e.id) else None) (both_request flow f k q here)
+        ∙ sym (found_one run q e ∙ ap (λ o. if named q o then Some (run, e.id) else None) is ∙ ap (λ v. if v then Some (run, e.id) else None) here)
+
+    go : (v : Bool) → bytes_eq flow f ≡ v → (if bytes_eq (both flow k) (both f q) then Some (run, e.id) else None) ≡ found_in run (if bytes_eq flow f then signal_in q (e ∷ []) else None) None
+    go true there = own (bytes_eq k q) refl there ∙ ap (λ v. found_in run (if v then signal_in q (e ∷ []) else None) None) (sym there)
+    go false there = ap (λ v. if v then Some (run, e.id) else None) (both_flow flow f k q there) ∙ ap (λ v. found_in run (if v then signal_in q (e ∷ []) else None) None) (sym there)
+
+pub without_event : (flow : Bytes) (run : ℕ) (e : Event) (g : Bytes → Bytes → Option (ℕ × ℕ)) → signal_of e ≡ None → (f q : Bytes) → g f q ≡ with_history flow run (e ∷ []) g f q
+without_event flow run e g none f q = sym (or_none (g f q)) ∙ ap (or_later (g f q)) (sym (go (bytes_eq flow f)))
+  where
+    go : (v : Bool) → found_in run (if v then signal_in q (e ∷ []) else None) None ≡ None
+    go true = found_one run q e ∙ ap (λ o. if named q o then Some (run, e.id) else None) none
+    go false = refl
 
 -- one event more of a history
-history_more : (run : ℕ) (h : List Event) (e : Event) (f g g' : Bytes → Option (ℕ × ℕ)) → ((q : Bytes) → g q ≡ with_history run h f q) → ((q : Bytes) → g' q ≡ with_history run (e ∷ []) g q) → (q : Bytes) → g' q ≡ with_history run (h ++ e ∷ []) f q
-history_more run h e f g g' so more q =
-    more q ∙ ap (λ o. or_later o (found_in run (signal_in q (e ∷ [])) None)) (so q)
-    ∙ or_both (f q) (found_in run (signal_in q h) None) (found_in run (signal_in q (e ∷ [])) None)
-    ∙ ap (or_later (f q)) (sym (found_both run q h (e ∷ [])))
+history_more : (flow : Bytes) (run : ℕ) (h : List Event) (e : Event) (g g' g'' : Bytes → Bytes → Option (ℕ × ℕ)) → ((f q : Bytes) → g' f q ≡ with_history flow run h g f q)
+    → ((f q : Bytes) → g'' f q ≡ with_history flow run (e ∷ []) g' f q) → (f q : Bytes) → g'' f q ≡ with_history flow run (h ++ e ∷ []) g f q
+history_more flow run h e g g' g'' so more f q =
+    more f q ∙ ap (λ o. or_later o (found_in run (if bytes_eq flow f then signal_in q (e ∷ []) else None) None)) (so f q) ∙ go (bytes_eq flow f)
+  where
+    go : (v : Bool) → or_later (or_later (g f q) (found_in run (if v then signal_in q h else None) None)) (found_in run (if v then signal_in q (e ∷ []) else None) None) ≡ or_later (g f q) (found_in run (if v then signal_in q (h ++ e ∷ []) else None) None)
+    go true = or_both (g f q) (found_in run (signal_in q h) None) (found_in run (signal_in q (e ∷ [])) None) ∙ ap (or_later (g f q)) (sym (found_both run q h (e ∷ [])))
+    go false = or_none (or_later (g f q) None)
 
-pub history_behind : (run : ℕ) (h : List Event) (i : ℕ) (e : Event) (f g g' : Bytes → Option (ℕ × ℕ)) → i < length h → e ≡ get_or h i e → ((q : Bytes) → g q ≡ with_history run (take i h) f q) → ((q : Bytes) → g' q ≡ with_history run (e ∷ []) g q)
-    → (q : Bytes) → g' q ≡ with_history run (take (i + 1) h) f q
-history_behind run h i e f g g' lt here so more q =
+pub history_behind : (flow : Bytes) (run : ℕ) (h : List Event) (i : ℕ) (e : Event) (g g' g'' : Bytes → Bytes → Option (ℕ × ℕ)) → i < length h → e ≡ get_or h i e → ((f q : Bytes) → g' f q ≡ with_history flow run (take i h) g f q)
+    → ((f q : Bytes) → g'' f q ≡ with_history flow run (e ∷ []) g' f q) → (f q : Bytes) → g'' f q ≡ with_history flow run (take (i + 1) h) g f q
+history_behind flow run h i e g g' g'' lt here so more f q =
     let now : take (i + 1) h ≡ take i h ++ e ∷ [] = take_more h i e lt ∙ ap (λ y. take i h ++ y ∷ []) (sym here) in
-    history_more run (take i h) e f g g' so more q ∙ ap (λ l. with_history run l f q) (sym now)
+    history_more flow run (take i h) e g g' g'' so more f q ∙ ap (λ l. with_history flow run l g f q) (sym now)
 
--- one event more that records no signal
-pub none_behind : (h : List Event) (i : ℕ) (e : Event) → i < length h → e ≡ get_or h i e → signal_of e ≡ None → ((q : Bytes) → signal_in q (take i h) ≡ None) → (q : Bytes) → signal_in q (take (i + 1) h) ≡ None
-none_behind h i e lt here none so q =
-    let now : take (i + 1) h ≡ take i h ++ e ∷ [] = take_more h i e lt ∙ ap (λ y. take i h ++ y ∷ []) (sym here) in
-    let quiet : is_signal_of q e ≡ false = signal_is q e ∙ named_none q (signal_of e) none in
-    ap (signal_in q) now ∙ signal_both q (take i h) (e ∷ []) ∙ ap (λ o. or_else o (signal_in q (e ∷ []))) (so q) ∙ ap (λ v. if v then Some e.id else None) quiet
+-- of a history without events nothing
+pub history_begins : (flow : Bytes) (run : ℕ) (g : Bytes → Bytes → Option (ℕ × ℕ)) (f q : Bytes) → g f q ≡ with_history flow run [] g f q
+history_begins flow run g f q = sym (or_none (g f q)) ∙ ap (or_later (g f q)) (sym (go (bytes_eq flow f)))
+  where
+    go : (v : Bool) → found_in run (if v then signal_in q [] else None) None ≡ None
+    go true = refl
+    go false = refl

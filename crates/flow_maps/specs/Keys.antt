@@ -1,8 +1,8 @@
 -- The keys of runs, in the order of the runs, and what numbers say of them.
 use Rattle.std.specs.Prelude.{◌≡◌, ◌+◌, ℕ, Bool, false, MatchBool, List, [], ◌∷◌, length, Option, Some, None, MatchOption, bytes_eq}
-use Rattle.std.specs.BTreeMap.{get_by_text}
 use Rattle.flow_base.specs.Syntax.{Bytes}
 use Rattle.flow_model.specs.Book.{first_from}
+use Rattle.flow_maps.specs.Names.{at_name}
 use Rattle.flow_maps.specs.declared.index.Numbers.{Numbers}
 use Rattle.flow_maps.specs.declared.index.Index.{Index}
 
@@ -23,7 +23,7 @@ key_found q ks = first_from (is_key q) 1 ks
 -- The numbers are of these keys, each of which stands once.
 pub record Numbered (m : Numbers) (ks : List (Option Bytes)) : Type 0 where
   pub count : m.count ≡ length ks
-  pub numbers : (q : Bytes) → IsOnly (get_by_text m.map q) q 1 ks
+  pub numbers : (q : Bytes) → IsOnly (at_name m.map q) q 1 ks
 
 -- What is known is of these keys.
 abbrev pub Lists : Index → List (Option Bytes) → Type 0

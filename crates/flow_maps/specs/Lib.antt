@@ -6,6 +6,7 @@ pub mod KnownCalls
 pub mod KnownHeads
 pub mod KnownRecords
 pub mod KnownTexts
+pub mod Names
 pub mod OfRuns
 pub mod Outlooks
 pub mod Serving

@@ -1,19 +1,18 @@
--- Where the signals of flows are recorded, by their requests. Of some flows all is known; of the others nothing, or that they have
--- taken none.
-use Rattle.std.specs.Prelude.{◌≡◌, ◌+◌, ℕ, Bool, List, Option, Some, None, MatchBool, MatchOption, bytes_eq, false}
-use Rattle.std.specs.BTreeMap.{get_by_text}
+-- Where the signals of flows are recorded, by their flows and requests: of all flows all is known, or nothing.
+use Rattle.std.specs.Prelude.{◌≡◌, ◌+◌, ℕ, List, Option, Some, None, MatchOption, bytes_eq, false, if◌then◌else◌}
 use Rattle.flow_base.specs.Syntax.{Bytes}
 use Rattle.flow_base.specs.declared.event.Event.{Event}
 use Rattle.flow_base.specs.declared.event.Input.{Input}
 use Rattle.flow_base.specs.declared.event.Input.TheVariants.{Signaled}
 use Rattle.flow_base.specs.declared.event.What.TheVariants.{Came, Asked}
 use Rattle.flow_model.specs.Book.{Book, signal_in, signalled, found_in}
-use Rattle.flow_maps.specs.declared.signals.FlowSignals.{FlowSignals}
+use Rattle.flow_maps.specs.Names.{at_name, both}
+use Rattle.flow_maps.specs.declared.signals.SignalEvents.{SignalEvents}
 use Rattle.flow_maps.specs.declared.signals.Signals.{Signals}
 
--- the event that records the signal of a request, by the map
-abbrev pub at_request : FlowSignals → Bytes → Option (ℕ × ℕ)
-at_request m q = get_by_text m.events q
+-- the event that records the signal of a request in the runs of a flow, by the map
+abbrev pub at_request : SignalEvents → Bytes → Bytes → Option (ℕ × ℕ)
+at_request m flow q = at_name m.map (both flow q)
 
 -- the request of a signal that came
 abbrev pub asked_by : Input → Option Bytes
@@ -29,25 +28,17 @@ abbrev pub or_later : Option (ℕ × ℕ) → Option (ℕ × ℕ) → Option (�
 or_later None later = later
 or_later (Some x) later = Some x
 
--- behind what was found already, what the history of a run of this number records
-abbrev pub with_history : ℕ → List Event → (Bytes → Option (ℕ × ℕ)) → Bytes → Option (ℕ × ℕ)
-with_history run h f q = or_later (f q) (found_in run (signal_in q h) None)
+-- behind what was found already, what the history of a run of this flow and number records
+abbrev pub with_history : Bytes → ℕ → List Event → (Bytes → Bytes → Option (ℕ × ℕ)) → Bytes → Bytes → Option (ℕ × ℕ)
+with_history flow run h g f q = or_later (g f q) (found_in run (if bytes_eq flow f then signal_in q h else None) None)
 
--- all signals that the runs of a flow have taken
-abbrev pub AreOf : FlowSignals → Book → Bytes → Type 0
-AreOf m b flow = (q : Bytes) → at_request m q ≡ signalled b flow q
-
--- of a flow all that is listed is so, or, where it isn't listed: it has taken none where the flows that have are all listed
-abbrev pub KnowsFlow : Bool → Option FlowSignals → Book → Bytes → Type 0
-KnowsFlow whole o b flow = MatchOption o (MatchBool whole ((q : Bytes) → signalled b flow q ≡ None) (Unit {0})) (λ m. AreOf m b flow)
+-- all signals that the runs of flows have taken
+abbrev pub AreOf : SignalEvents → Book → Type 0
+AreOf m b = (flow q : Bytes) → at_request m flow q ≡ signalled b flow q
 
 -- what is known is of this book
 abbrev pub KnowsSignals : Signals → Book → Type 0
-KnowsSignals s b = (flow : Bytes) → KnowsFlow s.is_whole (get_by_text s.flows flow) b flow
-
--- and so it is of all flows but one
-abbrev pub KnowsBut : Signals → Book → Bytes → Type 0
-KnowsBut s b but = (flow : Bytes) → bytes_eq but flow ≡ false → KnowsFlow s.is_whole (get_by_text s.flows flow) b flow
+KnowsSignals s b = MatchOption s.events (Unit {0}) (λ m. AreOf m b)
 
 -- another book says nothing else of the other flows
 abbrev pub IsSameBut : Book → Book → Bytes → Type 0

@@ -3,16 +3,27 @@ ghost use Rattle.flow_base.specs.Syntax.{Bytes};
 ghost use Rattle.flow_model.specs.Book.{nth};
 ghost use Rattle.flow_maps.specs.Keys.{Numbered, Lists, key_found};
 
+use crate::name::Name;
 use flow_base::number::{LAST_NUMBER, RunId};
 use flow_base::text::Key;
 use std::alloc::Global;
 use std::collections::BTreeMap;
 
-/// The numbers of so many runs by their keys.
+/// The numbers of so many runs by their keys. Each has four bytes: more runs than that have no room in memory.
 #[derive(Drop)]
 pub struct Numbers {
     count: u64,
-    map: BTreeMap<String, RunId>,
+    map: BTreeMap<Name, u32>,
+}
+
+/// A number in four bytes, if it has room there.
+pub(crate) fn in_four_bytes(number: u64) -> Option<u32>
+    ensures { IfSome result (λ n. n ≡ number) }
+{
+    if number > 4_294_967_295 {
+        return None;
+    }
+    Some(number as u32)
 }
 
 impl Numbers {
@@ -40,37 +51,48 @@ impl Numbers {
     fn add(&mut self, alloc: Global, key: &str) -> bool
         ensures { result ≡ true → (ks : List (Option Bytes)) → Numbered self.old ks → Numbered self.new (ks ++ Some key.now ∷ []) }
     {
-        if self.map.contains_key(key) {
-            return false;
-        }
-        if self.count >= LAST_NUMBER {
-            return false;
-        }
-        let Some(number) = RunId::new(self.count + 1) else {
+        let Some(name) = Name::new(alloc, key.as_bytes()) else {
             return false;
         };
-        let Ok(key) = String::from_str(alloc, key) else {
+        if self.map.contains_key(&name) || self.count >= LAST_NUMBER {
+            return false;
+        }
+        let Some(number) = in_four_bytes(self.count + 1) else {
             return false;
         };
-        let Ok(_) = self.map.insert(key, number) else {
+        let Ok(_) = self.map.insert(name, number) else {
             return false;
         };
         self.count += 1;
         true
     }
 
-    /// A run has its key no more.
-    fn remove(&mut self, key: &str)
-        ensures { (ks : List (Option Bytes)) → (n : _) → nth ks n ≡ Some (Some key.now) → Numbered self.old ks
+    /// A run has its key no more. Whether there was memory to look for it.
+    fn remove(&mut self, alloc: Global, key: &str) -> bool
+        ensures { result ≡ true → (ks : List (Option Bytes)) → (n : _) → nth ks n ≡ Some (Some key.now) → Numbered self.old ks
             → Numbered self.new (slice_set ks (n - 1) None) }
     {
-        self.map.remove(key);
+        let Some(name) = Name::new(alloc, key.as_bytes()) else {
+            return false;
+        };
+        self.map.remove(&name);
+        true
     }
 
-    fn find(&self, key: &Key) -> Option<RunId>
-        ensures { (ks : List (Option Bytes)) → Numbered self.now ks → result ≡ key_found key.now ks }
+    /// The run with a key, if there is memory to look for it.
+    fn find(&self, alloc: Global, key: &Key) -> Option<Option<RunId>>
+        ensures { IfSome result (λ o. (ks : List (Option Bytes)) → Numbered self.now ks → o ≡ key_found key.now ks) }
     {
-        self.map.get(key.as_str()).copied()
+        let Some(name) = Name::new(alloc, key.as_str().as_bytes()) else {
+            return None;
+        };
+        let Some(number) = self.map.get(&name) else {
+            return Some(None);
+        };
+        let Some(run) = RunId::new(u64::from(*number)) else {
+            return None;
+        };
+        Some(Some(run))
     }
 }
 
@@ -135,22 +157,26 @@ impl Index {
         }
     }
 
-    /// A run has its key no more.
+    /// A run has its key no more. Without memory to look for it nothing is known any more.
     pub fn remove(&mut self, key: &str)
         ensures { (ks : List (Option Bytes)) → (n : _) → nth ks n ≡ Some (Some key.now) → Lists self.old ks
             → Lists self.new (slice_set ks (n - 1) None) }
     {
-        if let Some(numbers) = &mut self.numbers {
-            numbers.remove(key);
+        let known = match &mut self.numbers {
+            Some(numbers) => numbers.remove(self.alloc, key),
+            None => false,
+        };
+        if !known {
+            self.forget();
         }
     }
 
-    /// The run with a key, if it is known.
+    /// The run with a key, if it is known and there is memory to look for it.
     pub fn find(&self, key: &Key) -> Option<Option<RunId>>
         ensures { IfSome result (λ o. (ks : List (Option Bytes)) → Lists self.now ks → o ≡ key_found key.now ks) }
     {
         match &self.numbers {
-            Some(numbers) => Some(numbers.find(key)),
+            Some(numbers) => numbers.find(self.alloc, key),
             None => None,
         }
     }

@@ -10,6 +10,7 @@ pub mod heads;
 pub mod index;
 mod left;
 pub mod maps;
+pub mod name;
 pub mod of_runs;
 pub mod outlook;
 pub mod records;

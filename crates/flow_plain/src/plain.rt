@@ -148,9 +148,7 @@ impl PlainRun {
     pub fn waits(&self, alloc: Global) -> Result<Vec<OpenWait>, AllocError>
         ensures { IfOk result (λ ws. ws.items ≡ waits_of (plain_configuration self.now).rest) }
     {
-        let mut list = Vec::new(alloc);
-        self.rest.add_waits(alloc, &mut list)?;
-        Ok(list)
+        self.rest.with_waits(alloc, Vec::new(alloc))
     }
 }
 

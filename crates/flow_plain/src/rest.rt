@@ -1,4 +1,4 @@
-ghost use Rattle.std.specs.Prelude.{◌≡◌, ◌++◌, IfOk, OnOk, is_some, map};
+ghost use Rattle.std.specs.Prelude.{◌≡◌, ◌++◌, IfOk, is_some, map};
 ghost use Rattle.flow_base.specs.Syntax.{block_of};
 ghost use Rattle.flow_base.specs.Shown.{shown_stmt, shown_braced, shown_otherwise};
 ghost use Rattle.flow_plain.specs.Shown.{shown_rest};
@@ -68,34 +68,38 @@ impl Rest {
         }
     }
 
-    /// Puts its open waits behind those of a list, from the left. After a refusal a part of them may be there, so the caller lets the list go.
-    pub fn add_waits(&self, alloc: Global, list: &mut Vec<OpenWait>) -> Result<(), AllocError>
-        ensures { OnOk result (list.new.items ≡ list.old.items ++ waits_of (shown_rest self.now)) }
+    /// The list with its open waits behind, from the left. A refusal of memory leaves no list.
+    pub fn with_waits(
+        &self,
+        alloc: Global,
+        mut list: Vec<OpenWait>,
+    ) -> Result<Vec<OpenWait>, AllocError>
+        ensures { IfOk result (λ all. all.items ≡ list.items ++ waits_of (shown_rest self.now)) }
     {
         match self {
-            Rest::Done => Ok(()),
+            Rest::Done => Ok(list),
             Rest::OnActivity(n, x, k, _) => {
                 list.push(OpenWait::Activity(*n, x.copy(alloc)?, *k))?;
-                Ok(())
+                Ok(list)
             }
             Rest::OnTimer(n) => {
                 list.push(OpenWait::Timer(*n))?;
-                Ok(())
+                Ok(list)
             }
             Rest::OnSignal(x, s) => {
                 list.push(OpenWait::Signal(x.copy(alloc)?, s.copy(alloc)?))?;
-                Ok(())
+                Ok(list)
             }
             Rest::OnSignalFor(x, s, n, _) => {
                 let x = x.copy(alloc)?;
                 list.push(OpenWait::SignalFor(x, s.copy(alloc)?, n.get()))?;
-                Ok(())
+                Ok(list)
             }
-            Rest::Raised(_, _) => Ok(()),
-            Rest::Then(r, _, _, _) => r.add_waits(alloc, list),
+            Rest::Raised(_, _) => Ok(list),
+            Rest::Then(r, _, _, _) => r.with_waits(alloc, list),
             Rest::Beside(a, b) => {
-                a.add_waits(alloc, list)?;
-                b.add_waits(alloc, list)
+                let left = a.with_waits(alloc, list)?;
+                b.with_waits(alloc, left)
             }
         }
     }

@@ -15,6 +15,7 @@ use Rattle.flow_model.specs.Configuration.{is_open}
 use Rattle.flow_model.specs.Open.{state_of}
 use Rattle.flow_model.specs.Stands.{Stands}
 use Rattle.flow_machine.proofs.Places.{nth_at}
+use Rattle.flow_machine.proofs.Seating.{settles_all}
 use Rattle.flow_recover.specs.Filling.{IsLedTo, AreLedTo}
 use Rattle.flow_recover.specs.Positions.{Meaning, open_from, AreOf, ArePositions, IsPosition}
 use Rattle.flow_recover.specs.declared.positions.Position.{Position}
@@ -86,7 +87,7 @@ one_led qs q l old new here led (inl is) all m there = elim (Contains-append_cas
 one_led qs q l old new here led (inr is) all m there = all m (subst (λ (xs : List Led). Contains xs m) is there)
 
 pub all_reached : (u : Meaning) (b : Book) (qs : List Position) (old new : Seats) → old.kept.entries ≡ [] → AreLedTo qs old.ahead.items → Settles old new → ArePositions u b qs → AllHave (ReachedIn u b) new.kept.entries
-all_reached u b qs old new none led settles are run e there = elim (settles (run, e) there) [
+all_reached u b qs old new none led settles are run e there = elim (settles_all old new settles (run, e) there) [
   | inl kept ↦ (let in_none = subst (λ es. Contains es (run, e)) none kept in absurd (omega (arith, in_none.1)))
   | inr ahead ↦ (let it = led (record { run = run; text = e.text; stance = e.stance }) ahead in reached_by u b it.0 (record { run = run; text = e.text; stance = e.stance }) (of_run u b qs are it.0 it.1.0) it.1.1)
 ]

@@ -6,6 +6,7 @@ use Rattle.std.proofs.lemmas.List.Elements.{All-nil, All-cons, All-append}
 use Rattle.sqlite_trees.specs.declared.store.Store.{Ghosts}
 use Rattle.flow_base.specs.declared.code.Code.TheVariants as code
 use Rattle.flow_base.specs.declared.command.Command.{Command}
+use Rattle.flow_base.specs.declared.fault.Fault.{Fault}
 use Rattle.flow_model.specs.Book.{Book}
 use Rattle.flow_base.specs.declared.submission.Taken.{Taken}
 use Rattle.flow_queues.specs.declared.refused.Refused.{Refused}
@@ -210,82 +211,88 @@ unserved g old was last waiting turns = served_behind g old old was was last wai
 
 -- The batches so far, and the boards that were asked for: one more.
 pub record Turned {S : Type 0} (g : Ghosts S) (tells : ℕ → Type 0) (old now : Keeping S) (was told : List Refused)
-    (first posted : List Task) : Type 0 where
+    (first posted : List Task) (left missed : List Fault) : Type 0 where
   pub count : ℕ
   pub served : Served g old now was told count
-  pub turns : HasTurns g tells old now first posted (suc count)
+  pub turns : HasTurns g tells old now first posted left missed (suc count)
 
-module _ {S : Type 0} (g : Ghosts S) (tells : ℕ → Type 0) (old : Keeping S) (was : List Refused) (first : List Task) where
+module _ {S : Type 0} (g : Ghosts S) (tells : ℕ → Type 0) (old : Keeping S) (was : List Refused) (first : List Task) (left : List Fault) where
   -- the first board
-  pub boarded_first : (new : Keeping S) (told : List Refused) (posted : List Task) → IsStill g old new → told ≡ was → HasTurn g tells old
-      new first posted → Turned g tells old new was told first posted
-  boarded_first new told posted still same turn = record {
+  pub boarded_first : (new : Keeping S) (told : List Refused) (posted : List Task) (missed : List Fault) → IsStill g old new → told ≡ was
+      → HasTurn g tells old new first posted left missed → Turned g tells old new was told first posted left missed
+  boarded_first new told posted missed still same turn = record {
     count = 0;
     served = served_still g old old new was was told 0 (none_served g old was) still same;
-    turns = turns_more g tells old old new first first posted 0 (no_turns g tells old first) refl still
+    turns = turns_more g tells old old new first first posted left left missed 0 (no_turns g tells old first left) refl still
         (λ _. since_self (state_of g old.stored)) turn;
   }
 
-  module _ (mid kept new : Keeping S) (then told now : List Refused) (posted : List Task) (batch : List Taken) (size : IsBatch batch)
-      (b : Turned g tells old mid was then first posted) (one : HasAnswered g mid kept then told batch) (found : kept.found ≡ mid.found)
+  module _ (mid kept new : Keeping S) (then told now : List Refused) (posted : List Task) (since : List Fault) (batch : List Taken) (size : IsBatch batch)
+      (b : Turned g tells old mid was then first posted left since) (one : HasAnswered g mid kept then told batch) (found : kept.found ≡ mid.found)
     where
       behind : Served g old kept was told (suc b.count)
       behind = served_more g old mid kept was then told b.count b.served batch size one
 
-      committed : (posted' : List Task) → posted' ≡ posted → HasTurns g tells old kept first posted' (suc b.count)
-      committed posted' same = turns_on g tells old mid kept first posted posted' (suc b.count)
-          (answered_later g mid kept then told batch one found) same one.on b.turns
+      committed : (posted' : List Task) (missed : List Fault) → posted' ≡ posted → missed ≡ since
+          → HasTurns g tells old kept first posted' left missed (suc b.count)
+      committed posted' missed same none = turns_on g tells old mid kept first posted posted' left since missed (suc b.count)
+          (answered_later g mid kept then told batch one found) same none one.on b.turns
 
       -- one batch more, and a board behind it
-      pub boarded_more : (posted' after' : List Task) → posted' ≡ posted → kept.halted ≡ old.halted → IsStill g kept new → now ≡ told
-          → HasTurn g tells kept new posted' after' → Turned g tells old new was now first after'
-      boarded_more posted' after' same halted still told_on turn = record {
+      pub boarded_more : (posted' after' : List Task) (missed behind' : List Fault) → posted' ≡ posted → missed ≡ since
+          → kept.halted ≡ old.halted → IsStill g kept new → now ≡ told
+          → HasTurn g tells kept new posted' after' missed behind' → Turned g tells old new was now first after' left behind'
+      boarded_more posted' after' missed behind' same none halted still told_on turn = record {
         count = suc b.count;
         served = served_still g old kept new was told now (suc b.count) behind still told_on;
-        turns = turns_more g tells old kept new first posted' after' (suc b.count) (committed posted' same) halted still behind.since turn;
+        turns = turns_more g tells old kept new first posted' after' left missed behind' (suc b.count) (committed posted' missed same none) halted still
+            behind.since turn;
       }
 
       -- one batch more, and nothing behind it
-      pub boarded_last : (posted' : List Task) → posted' ≡ posted → ServesBoarded g tells old kept was told [] first posted' 0
+      pub boarded_last : (posted' : List Task) (missed : List Fault) → posted' ≡ posted → missed ≡ since
+          → ServesBoarded g tells old kept was told [] first posted' left missed 0
       unfolding has_served behind
-      boarded_last posted' same =
+      boarded_last posted' missed same none =
           let served = behind in
           let many : length served.batches ≡ suc b.count = served.many in
           let count : suc b.count ≡ 0 + length served.batches = omega (arith, many) in
           record {
             served = has_served g old kept was told (suc b.count) served;
-            turns = subst (λ (n : ℕ). HasTurns g tells old kept first posted' n) count (committed posted' same);
+            turns = subst (λ (n : ℕ). HasTurns g tells old kept first posted' left missed n) count (committed posted' missed same none);
           }
 
   -- the hub is closed, and nothing more is taken
-  pub boarded_done : (mid : Keeping S) (then told : List Refused) (posted posted' : List Task) → told ≡ then → posted' ≡ posted
-      → Turned g tells old mid was then first posted → ServesBoarded g tells old mid was told [] first posted' 1
+  pub boarded_done : (mid : Keeping S) (then told : List Refused) (posted posted' : List Task) (since missed : List Fault) → told ≡ then
+      → posted' ≡ posted → missed ≡ since → Turned g tells old mid was then first posted left since
+      → ServesBoarded g tells old mid was told [] first posted' left missed 1
   unfolding has_served
-  boarded_done mid then told posted posted' same none b =
+  boarded_done mid then told posted posted' since missed same none skips b =
       let served = subst (λ (rs : List Refused). Served g old mid was rs b.count) (sym same) b.served in
-      let turns = subst (λ (ts : List Task). HasTurns g tells old mid first ts (suc b.count)) (sym none) b.turns in
+      let turns = subst (λ (fs : List Fault). HasTurns g tells old mid first posted' left fs (suc b.count)) (sym skips)
+      (subst (λ (ts : List Task). HasTurns g tells old mid first ts left since (suc b.count)) (sym none) b.turns) in
       let many : length served.batches ≡ b.count = served.many in
       let count : suc b.count ≡ 1 + length served.batches = omega (arith, many) in
       record {
         served = has_served g old mid was told b.count served;
-        turns = subst (λ (n : ℕ). HasTurns g tells old mid first posted' n) count turns;
+        turns = subst (λ (n : ℕ). HasTurns g tells old mid first posted' left missed n) count turns;
       }
 
   -- and what waited was turned away, behind which there is no board
-  pub boarded_behind : (now : Keeping S) (told last : List Refused) (posted posted' : List Task) (waiting : List Taken) → TurnsAway told
-      last waiting → posted' ≡ posted → ServesBoarded g tells old now was told [] first posted 0 → ServesBoarded g tells old now was last
-      waiting first posted' 0
+  pub boarded_behind : (now : Keeping S) (told last : List Refused) (posted posted' : List Task) (missed : List Fault) (waiting : List Taken)
+      → TurnsAway told last waiting → posted' ≡ posted → ServesBoarded g tells old now was told [] first posted left missed 0
+      → ServesBoarded g tells old now was last waiting first posted' left missed 0
   unfolding served_behind
-  boarded_behind now told last posted posted' waiting turns same b = record {
+  boarded_behind now told last posted posted' missed waiting turns same b = record {
     served = served_behind g old now was told last waiting b.served turns;
-    turns = subst (λ (ts : List Task). HasTurns g tells old now first ts (0 + length b.served.batches)) (sym same) b.turns;
+    turns = subst (λ (ts : List Task). HasTurns g tells old now first ts left missed (0 + length b.served.batches)) (sym same) b.turns;
   }
 
   -- nothing was taken
   pub unboarded : (last : List Refused) (posted : List Task) (waiting : List Taken) → TurnsAway was last waiting → posted ≡ first
-      → ServesBoarded g tells old old was last waiting first posted 0
+      → ServesBoarded g tells old old was last waiting first posted left left 0
   unfolding unserved served_behind has_served none_served
   unboarded last posted waiting turns same = record {
     served = unserved g old was last waiting turns;
-    turns = subst (λ (ts : List Task). HasTurns g tells old old first ts 0) (sym same) (no_turns g tells old first);
+    turns = subst (λ (ts : List Task). HasTurns g tells old old first ts left left 0) (sym same) (no_turns g tells old first left);
   }

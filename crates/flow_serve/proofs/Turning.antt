@@ -1,5 +1,5 @@
 -- Boards that were asked for, from turn to turn.
-use Rattle.std.proofs.Common.{◌≡◌, ◌⊎◌, inl, inr, ℕ, suc, ◌+◌, ◌≤◌, true, false, List, [], ◌∷◌, ◌++◌, length, refl, sym, ◌∙◌, subst, arith, true≢false, length-append}
+use Rattle.std.proofs.Common.{◌≡◌, ◌⊎◌, inl, inr, ℕ, suc, ◌+◌, ◌≤◌, true, false, List, [], ◌∷◌, ◌++◌, length, refl, sym, ap, ◌∙◌, subst, arith, true≢false, length-append}
 use Rattle.std.specs.Prelude.{Bool, MatchResult, Result, Ok, Err, is_ok}
 use Rattle.std.proofs.lemmas.List.Elements.{All-nil, All-cons}
 use Rattle.sqlite_trees.specs.declared.store.Store.{Ghosts}
@@ -17,7 +17,7 @@ use Rattle.flow_commit.proofs.Sealing.{shut_on}
 use Rattle.flow_engine.specs.Counting.{IsHeldBack, IsMoreBy}
 use Rattle.flow_engine.proofs.Counting.{failed_or_held, held_since, held_still, more_none, more_one, more_still}
 use Rattle.flow_engine.specs.Boarding.{IsStill}
-use Rattle.flow_serve.specs.Posting.{AreRefusedBut, AreSkipped, ArePosted, HasNoBoard, HasTurn, HasTurns, PostsOne}
+use Rattle.flow_serve.specs.Posting.{AreRefusedBut, AreSkipped, ArePosted, HasNoBoard, HasTurn, HasTurns, PostsOne, SkipsFor}
 use Rattle.flow_serve.proofs.Posted.{IsLater, are_joined, are_later, still_later}
 
 ---- Why there was none
@@ -35,11 +35,21 @@ by_fault halted P Q fault.StoreRefused of why = elim (why refl) [ inl held ↦ i
 by_fault halted P Q fault.Halted of why = inl (λ e. absurd (cc))
 by_fault halted P Q _ of why = absurd of
 
--- what came of asking for a board, by the result
-pub turn_of : {A B : Type 0} {C : Fault → Type 0} (r : Result Unit Fault) → MatchResult r (λ _. A) (λ f. B × C f) → A ⊎
-    (B × ((f : Fault) × C f))
-turn_of (Ok u) h = inl h
-turn_of (Err f) h = inr (h.0, (f, h.1))
+-- what came of asking for a board that was posted
+pub posted_first : (A : Type 0) (C : Fault → Type 0) (r : Result Unit Fault) → is_ok r ≡ true → MatchResult r (λ _. A) C → A
+posted_first A C (Ok u) e h = h
+posted_first A C (Err f) e h = absurd (true≢false (sym e))
+
+-- what is skipped for one fault
+pub skips_none : (f : Fault) (left missed : List Fault) → missed ≡ left → SkipsFor f left missed
+skips_none f left missed same = record { more = []; are = same; each = All-nil (λ (x : Fault). x ≡ f) }
+
+pub skips_more : (f : Fault) (left then missed : List Fault) → SkipsFor f left then → missed ≡ f ∷ then → SkipsFor f left missed
+skips_more f left then missed was is = record {
+  more = f ∷ was.more;
+  are = is ∙ ap (λ fs. f ∷ fs) was.are;
+  each = All-cons (λ (x : Fault). x ≡ f) f was.more refl was.each;
+}
 
 -- nothing where it was refused
 pub refused_first : (A B : Type 0) (C : Fault → Type 0) (r : Result Unit Fault) → is_ok r ≡ false → MatchResult r (λ _. A) (λ f. B × C f)
@@ -125,37 +135,43 @@ module _ {S : Type 0} (g : Ghosts S) where
   }
 
   -- what came of it where nothing came of the first
-  pub turn_again : (tells : ℕ → Type 0) (old mid new : Keeping S) (was then posted : List Task) → IsStill g old mid → IsStill g mid new
-      → then ≡ was → HasTurn g tells mid new then posted → HasTurn g tells old new was posted
-  turn_again tells old mid new was then posted first second same (inl one) = inl
-      (subst (λ (ts : List Task). PostsOne g tells new ts posted) same one)
-  turn_again tells old mid new was then posted first second same (inr (none, (f, why))) = inr
-      (none ∙ same, (f, none_again old mid new f first second why))
+  pub turn_again : (tells : ℕ → Type 0) (old mid new : Keeping S) (was then posted : List Task) (left since missed : List Fault)
+      → IsStill g old mid → IsStill g mid new → then ≡ was → since ≡ left → HasTurn g tells mid new then posted since missed
+      → HasTurn g tells old new was posted left missed
+  turn_again tells old mid new was then posted left since missed first second same none (inl one) = inl
+      (subst (λ (ts : List Task). PostsOne g tells new ts posted) same one.0, one.1 ∙ none)
+  turn_again tells old mid new was then posted left since missed first second same none (inr (still, (f, (why, is)))) = inr
+      (still ∙ same, (f, (none_again old mid new f first second why, is ∙ ap (λ fs. f ∷ fs) none)))
 
-  pub turn_skipped : (tells : ℕ → Type 0) (old new : Keeping S) (was then posted : List Task) → posted ≡ then → HasTurn g tells old new
-      was then → HasTurn g tells old new was posted
-  turn_skipped tells old new was then posted same turn = subst (λ (ts : List Task). HasTurn g tells old new was ts) (sym same) turn
+  pub turn_still : (tells : ℕ → Type 0) (old new : Keeping S) (was then posted : List Task) (left since missed : List Fault) → posted ≡ then
+      → missed ≡ since → HasTurn g tells old new was then left since → HasTurn g tells old new was posted left missed
+  turn_still tells old new was then posted left since missed same none turn =
+      subst (λ (fs : List Fault). HasTurn g tells old new was posted left fs) (sym none)
+      (subst (λ (ts : List Task). HasTurn g tells old new was ts left since) (sym same) turn)
 
   ---- Many
 
-  pub no_turns : (tells : ℕ → Type 0) (old : Keeping S) (was : List Task) → HasTurns g tells old old was was 0
-  no_turns tells old was = record {
+  pub no_turns : (tells : ℕ → Type 0) (old : Keeping S) (was : List Task) (left : List Fault) → HasTurns g tells old old was was left left 0
+  no_turns tells old was left = record {
     boards = [];
     are = refl;
     skipped = [];
+    noted = refl;
     all = omega arith;
     among = All-nil (IsOfBoard old.halted);
     counted = λ _. none_skipped old;
   }
 
   -- what is committed asks for none
-  pub turns_on : (tells : ℕ → Type 0) (old mid new : Keeping S) (was then posted : List Task) (n : ℕ) → IsLater g mid new → posted ≡ then
-      → (IsFit g new → HasGoneOn g mid new) → HasTurns g tells old mid was then n → HasTurns g tells old new was posted n
-  turns_on tells old mid new was then posted n later same on t = record {
+  pub turns_on : (tells : ℕ → Type 0) (old mid new : Keeping S) (was then posted : List Task) (left since missed : List Fault) (n : ℕ)
+      → IsLater g mid new → posted ≡ then → missed ≡ since → (IsFit g new → HasGoneOn g mid new)
+      → HasTurns g tells old mid was then left since n → HasTurns g tells old new was posted left missed n
+  turns_on tells old mid new was then posted left since missed n later same none on t = record {
     boards = t.boards;
     are = subst (λ (ts : List Task). ArePosted g tells new was ts t.boards) (sym same)
         (are_later g tells mid new was then t.boards later t.are);
     skipped = t.skipped;
+    noted = none ∙ t.noted;
     all = t.all;
     among = t.among;
     counted = λ fit. skipped_still old mid new t.skipped (on fit).since.0 (shut_on (state_of g mid.stored).is_open
@@ -163,7 +179,8 @@ module _ {S : Type 0} (g : Ghosts S) where
   }
 
   -- one more
-  module _ (tells : ℕ → Type 0) (old mid new : Keeping S) (was then posted : List Task) (n : ℕ) (t : HasTurns g tells old mid was then n)
+  module _ (tells : ℕ → Type 0) (old mid new : Keeping S) (was then posted : List Task) (left now missed : List Fault) (n : ℕ)
+      (t : HasTurns g tells old mid was then left now n)
       (halted : mid.halted ≡ old.halted) (still : IsStill g mid new) (since : IsFit g mid → Since (state_of g old.stored)
       (state_of g mid.stored)) where
     before : IsFit g new → IsFit g mid
@@ -175,24 +192,26 @@ module _ {S : Type 0} (g : Ghosts S) where
     so_far : ArePosted g tells new was then t.boards
     so_far = are_later g tells mid new was then t.boards (still_later g mid new still) t.are
 
-    pub turns_more : HasTurn g tells mid new then posted → HasTurns g tells old new was posted (suc n)
-    turns_more (inl one) =
+    pub turns_more : HasTurn g tells mid new then posted now missed → HasTurns g tells old new was posted left missed (suc n)
+    turns_more (inl (one, none)) =
         let many : length (t.boards ++ one.board ∷ []) ≡ length t.boards + 1 = length-append t.boards (one.board ∷ []) in
         let count : n ≡ length t.boards + length t.skipped = t.all in
         record {
           boards = t.boards ++ one.board ∷ [];
           are = are_joined g tells new was then posted t.boards (one.board ∷ []) so_far (one.made, one.is);
           skipped = t.skipped;
+          noted = none ∙ t.noted;
           all = omega (arith, many, count);
           among = t.among;
           counted = λ fit. skipped_still old mid new t.skipped (still.stored.3 fit.0 fit.1).0 (shuts fit) (t.counted (before fit));
         }
-    turns_more (inr (same, (f, why))) =
+    turns_more (inr (same, (f, (why, is)))) =
         let count : n ≡ length t.boards + length t.skipped = t.all in
         record {
           boards = t.boards;
           are = subst (λ (ts : List Task). ArePosted g tells new was ts t.boards) (sym same) so_far;
           skipped = f ∷ t.skipped;
+          noted = is ∙ ap (λ fs. f ∷ fs) t.noted;
           all = omega (arith, count);
           among = All-cons (IsOfBoard old.halted) f t.skipped (subst (λ h. IsOfBoard h f) halted why.among) t.among;
           counted = λ fit. skipped_more old mid new t.skipped f (since (before fit)) (still.stored.3 fit.0 fit.1).0 (shuts fit)

@@ -49,9 +49,10 @@ pub record HasNoBoard {S : Type 0} (g : Ghosts S) (old new : Keeping S) (f : Fau
   pub among : IsOfBoard old.halted f
   pub cause : IsFit g new → f ≡ fault.StoreRefused → IsDown g old.stored new.stored
 
--- A board was asked for: it was posted, or there is none for this.
-abbrev pub HasTurn : {S : Type 0} → Ghosts S → (ℕ → Type 0) → Keeping S → Keeping S → List Task → List Task → Type 0
-HasTurn g tells old new was posted = PostsOne g tells new was posted ⊎ ((posted ≡ was) × ((f : Fault) × HasNoBoard g old new f))
+-- A board was asked for: it was posted, or there is none for this fault, which is the last one for which one was skipped.
+abbrev pub HasTurn : {S : Type 0} → Ghosts S → (ℕ → Type 0) → Keeping S → Keeping S → List Task → List Task → List Fault → List Fault → Type 0
+HasTurn g tells old new was posted left missed =
+    (PostsOne g tells new was posted × (missed ≡ left)) ⊎ ((posted ≡ was) × ((f : Fault) × HasNoBoard g old new f × (missed ≡ f ∷ left)))
 
 -- This stands behind each of these that is E80, but for so many.
 abbrev pub AreRefusedBut : Type 0 → ℕ → List Fault → Type 0
@@ -65,12 +66,20 @@ pub record AreSkipped {S : Type 0} (g : Ghosts S) (old new : Keeping S) (skipped
   pub counted : IsMoreBy failures (state_of g old.stored).faults (state_of g new.stored).faults
   pub are : AreRefusedBut (IsHeldBack g old new) failures skipped
 
--- A board was asked for so many times: these were posted one behind the other, and the others were skipped for these faults.
+-- A board was asked for so many times: these were posted one behind the other, and the others were skipped for these faults, which are
+-- those that the publisher was told of since.
 pub record HasTurns {S : Type 0} (g : Ghosts S) (tells : ℕ → Type 0) (old new : Keeping S) (was posted : List Task)
-    (turns : ℕ) : Type 0 where
+    (left missed : List Fault) (turns : ℕ) : Type 0 where
   pub boards : List Boarded
   pub are : ArePosted g tells new was posted boards
   pub skipped : List Fault
+  pub noted : missed ≡ skipped ++ left
   pub all : turns ≡ length boards + length skipped
   pub among : All (IsOfBoard old.halted) skipped
   pub counted : IsFit g new → AreSkipped g old new skipped
+
+-- Since then boards were skipped for this fault, and for no other.
+pub record SkipsFor (f : Fault) (left missed : List Fault) : Type 0 where
+  pub more : List Fault
+  pub are : missed ≡ more ++ left
+  pub each : All (λ (x : Fault). x ≡ f) more

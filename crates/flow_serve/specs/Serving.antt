@@ -123,6 +123,6 @@ pub record HasServed {S : Type 0} (g : Ghosts S) (old new : Keeping S) (was now 
 
 -- What was taken was answered so, and a board was asked for before each batch, and so many times more.
 pub record ServesBoarded {S : Type 0} (g : Ghosts S) (tells : ℕ → Type 0) (old new : Keeping S) (was now : List Refused)
-    (waiting : List Taken) (first posted : List Task) (more : ℕ) : Type 0 where
+    (waiting : List Taken) (first posted : List Task) (left missed : List Fault) (more : ℕ) : Type 0 where
   pub served : HasServed g old new was now waiting
-  pub turns : HasTurns g tells old new first posted (more + length served.batches)
+  pub turns : HasTurns g tells old new first posted left missed (more + length served.batches)

@@ -1,5 +1,5 @@
 //! A life of an engine that serves a hub, as the headline has it.
-ghost use Rattle.std.specs.Prelude.{◌≡◌, ◌≤◌, [], IfErr, IfOk};
+ghost use Rattle.std.specs.Prelude.{◌≡◌, ◌≤◌, true, [], IfErr, IfOk, OnOk};
 ghost use Rattle.sqlite.specs.Held.{state};
 ghost use Rattle.sqlite.specs.State.{HasCleanDisk};
 ghost use Rattle.flow_tables.specs.Owned.{state_of};
@@ -30,7 +30,9 @@ fn served<S: Alter, B: Room, R: Wait + time::Clock, C: Clock>(
     requires fresh { engine.log ≡ [] }
     requires none { publisher.old ≡ nothing }
     requires most { (1 ≤ most) × (most ≤ 64) }
-    ensures { ServesHub S.Store engine result.0 publisher.new.history }
+    ensures serves { ServesHub S.Store engine result.0 publisher.new.history }
+    ensures closed { OnOk result.1 (publisher.new.ended ≡ publisher.old.ended) }
+    ensures closes { IfErr result.1 (λ _. publisher.new.ended ≡ true) }
 {
     let mut engine = engine;
     let outcome = serve(&mut engine, rt, publisher, clock, most);
@@ -55,6 +57,9 @@ pub fn live<S: Alter, B: Room, R: Wait + time::Clock, C: Clock>(
     requires most { (1 ≤ most) × (most ≤ 64) }
     ensures lived { IfOk result (λ r. HasCleanDisk (state_of S.Store r.0.stored)
         → HasLivedServing S.Store conn r.0 publisher.new.history) }
+    // The outcome that is told is that of serving: on Ok the publisher hasn't closed the hub, and behind a fault it has.
+    ensures closed { IfOk result (λ r. OnOk r.1 (publisher.new.ended ≡ publisher.old.ended)) }
+    ensures closes { IfOk result (λ r. IfErr r.1 (λ _. publisher.new.ended ≡ true)) }
     ensures early { IfErr result (λ e. HasCleanDisk (state S.Store e.1) → IsLife S.Store (Refused conn e.0 e.1)) }
 {
     match Engine::open(alloc, conn, settings) {

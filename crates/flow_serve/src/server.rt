@@ -1,12 +1,13 @@
 //! The thread that keeps: it takes what was submitted to a hub, commits it and answers it.
 ghost use Rattle.std.specs.Prelude.{◌≡◌, ◌≤◌, true, false, [], List, IfErr, OnOk, MatchResult};
 ghost use Rattle.std.specs.Vec.{vec_capacity};
+ghost use Rattle.flow_base.specs.declared.fault.Fault.{Fault as AFault};
 ghost use Rattle.flow_base.specs.declared.submission.Taken.{Taken as ATaken};
 ghost use Rattle.flow_commit.specs.Keeping.{account_of};
 ghost use Rattle.flow_hub.specs.Knowing.{IsBefore};
 ghost use Rattle.flow_engine.specs.Boarding.{IsStill};
-ghost use Rattle.flow_serve.specs.Posting.{HasNoBoard, HasTurn, Posts, PostsOne};
-ghost use Rattle.flow_hub.specs.Publishing.{InHand, IsDone, Together};
+ghost use Rattle.flow_serve.specs.Posting.{HasNoBoard, HasTurn, Posts, PostsOne, SkipsFor};
+ghost use Rattle.flow_hub.specs.Publishing.{InHand, IsDone, TakesAll, Together};
 ghost use Rattle.flow_engine.specs.Answering.{Follows};
 ghost use Rattle.flow_serve.specs.Serving.{EndsFor, GivesUp, HasAnswered, HasServed, ServesBoarded, StopsAt, StopsFor, TurnsAway};
 
@@ -55,6 +56,8 @@ fn commit_taken<S: Alter, B: Room, R: Wait>(
     // It was committed, and this has become of it, with what stands behind E80.
     ensures answered { HasAnswered S.Store engine.old engine.new publisher.old.refused publisher.new.refused batch }
     ensures posted { publisher.new.posted ≡ publisher.old.posted }
+    ensures skipped { publisher.new.skipped ≡ publisher.old.skipped }
+    ensures takes { publisher.new.takes ≡ publisher.old.takes }
     ensures ended { publisher.new.ended ≡ publisher.old.ended }
     ensures found { engine.new.found ≡ engine.old.found }
     ensures follows { Follows S.Store engine.old engine.new }
@@ -96,6 +99,8 @@ fn try_board<S: Alter, B: Room, R: Wait, C: Clock>(
     ensures posts { Posts S.Store (C.tells clock.now) engine.new publisher.old.posted publisher.new.posted }
     ensures still { IsStill S.Store engine.old engine.new }
     ensures refused { publisher.new.refused ≡ publisher.old.refused }
+    ensures skipped { publisher.new.skipped ≡ publisher.old.skipped }
+    ensures takes { publisher.new.takes ≡ publisher.old.takes }
     ensures ended { publisher.new.ended ≡ publisher.old.ended }
     ensures grows { IsBefore publisher.old publisher.new }
 {
@@ -118,19 +123,22 @@ fn post_board<S: Alter, B: Room, R: Wait, C: Clock>(
     requires together { Together (account_of S.Store engine.old) publisher.old }
     ensures together { Together (account_of S.Store engine.new) publisher.new }
     ensures boarded { publisher.new.boarded ≡ true }
-    // One was made and posted, or there is none for a fault that is told of this engine.
-    ensures turn { HasTurn S.Store (C.tells clock.now) engine.old engine.new publisher.old.posted publisher.new.posted }
+    // One was made and posted, or it was skipped for a fault that is told of this engine.
+    ensures turn { HasTurn S.Store (C.tells clock.now) engine.old engine.new publisher.old.posted publisher.new.posted
+        publisher.old.skipped publisher.new.skipped }
     ensures posts { Posts S.Store (C.tells clock.now) engine.new publisher.old.posted publisher.new.posted }
     ensures still { IsStill S.Store engine.old engine.new }
     ensures refused { publisher.new.refused ≡ publisher.old.refused }
+    ensures takes { publisher.new.takes ≡ publisher.old.takes }
     ensures ended { publisher.new.ended ≡ publisher.old.ended }
     ensures grows { IsBefore publisher.old publisher.new }
 {
     if try_board(rt, engine, publisher, clock).is_ok() {
         return;
     }
-    if let Err(fault) = try_board(rt, engine, publisher, clock) {
-        publisher.skip(rt, &fault);
+    match try_board(rt, engine, publisher, clock) {
+        Ok(()) => {}
+        Err(fault) => publisher.skip(rt, &fault),
     }
 }
 
@@ -157,10 +165,11 @@ fn serve_all<S: Alter, B: Room, R: Wait + time::Clock, C: Clock>(
     ensures served { HasServed S.Store engine.old engine.new publisher.old.refused publisher.new.refused [] }
     // A board was asked for before each batch, and behind the last one that doesn't halt the engine.
     ensures boards { MatchResult result
-        (λ _. ServesBoarded S.Store (C.tells clock.now) engine.old engine.new
-        publisher.old.refused publisher.new.refused [] publisher.old.posted publisher.new.posted 1)
-        (λ _. ServesBoarded S.Store (C.tells clock.now) engine.old engine.new
-        publisher.old.refused publisher.new.refused [] publisher.old.posted publisher.new.posted 0) }
+        (λ _. ServesBoarded S.Store (C.tells clock.now) engine.old engine.new publisher.old.refused publisher.new.refused []
+        publisher.old.posted publisher.new.posted publisher.old.skipped publisher.new.skipped 1)
+        (λ _. ServesBoarded S.Store (C.tells clock.now) engine.old engine.new publisher.old.refused publisher.new.refused []
+        publisher.old.posted publisher.new.posted publisher.old.skipped publisher.new.skipped 0) }
+    ensures whole { TakesAll most publisher.old publisher.new }
     ensures posts { Posts S.Store (C.tells clock.now) engine.new publisher.old.posted publisher.new.posted }
     ensures found { engine.new.found ≡ engine.old.found }
     ensures follows { Follows S.Store engine.old engine.new }
@@ -190,9 +199,12 @@ fn turn_away<B: Room, R: Wait + time::Clock>(
     requires none { publisher.old.held ≡ [] }
     requires most { (1 ≤ most) × (most ≤ 64) }
     ensures done { IsDone publisher.new }
+    ensures ended { publisher.new.ended ≡ true }
     ensures none { publisher.new.held ≡ [] }
     ensures history { (publisher.new.history ≡ publisher.old.history) × (publisher.new.last ≡ publisher.old.last) }
     ensures posted { publisher.new.posted ≡ publisher.old.posted }
+    ensures skipped { SkipsFor fault.now publisher.old.skipped publisher.new.skipped }
+    ensures whole { TakesAll most publisher.old publisher.new }
     ensures turned { (waiting : List ATaken) × TurnsAway publisher.old.refused publisher.new.refused waiting }
     ensures grows { IsBefore publisher.old publisher.new }
 {
@@ -237,6 +249,8 @@ pub fn serve<S: Alter, B: Room, R: Wait + time::Clock, C: Clock>(
     ensures done { IsDone publisher.new }
     // It was closed before the call, or since then by whoever has the hub: the publisher hasn't closed it.
     ensures closed { OnOk result (publisher.new.ended ≡ publisher.old.ended) }
+    // Behind a fault it doesn't wait for somebody else to close it: the publisher has closed it.
+    ensures closes { IfErr result (λ _. publisher.new.ended ≡ true) }
     ensures goes_on { OnOk result (engine.new.halted ≡ engine.old.halted) }
     ensures given_up { OnOk result (GivesUp publisher.old.refused publisher.new.refused) }
     ensures stops { IfErr result
@@ -248,11 +262,16 @@ pub fn serve<S: Alter, B: Room, R: Wait + time::Clock, C: Clock>(
         (λ _. (waiting : List ATaken) × HasServed S.Store engine.old engine.new publisher.old.refused publisher.new.refused waiting) }
     // A board was asked for before each batch, and behind the last one that doesn't halt the engine: it was posted, or there was none for
     // E01, E85 of an engine that had halted, or E80, and that for no more times than the store has failed, if nothing else holds it back.
+    // Each such fault is one that the publisher was told of, so an E01 is one that an allocator has answered. Behind a fault that ends
+    // serving there is no board, for that one.
     ensures boards { MatchResult result
-        (λ _. ServesBoarded S.Store (C.tells clock.now) engine.old engine.new
-        publisher.old.refused publisher.new.refused [] publisher.old.posted publisher.new.posted 1)
-        (λ _. (waiting : List ATaken) × ServesBoarded S.Store (C.tells clock.now) engine.old engine.new
-        publisher.old.refused publisher.new.refused waiting publisher.old.posted publisher.new.posted 0) }
+        (λ _. ServesBoarded S.Store (C.tells clock.now) engine.old engine.new publisher.old.refused publisher.new.refused []
+        publisher.old.posted publisher.new.posted publisher.old.skipped publisher.new.skipped 1)
+        (λ f. (waiting : List ATaken) × (missed : List AFault)
+        × ServesBoarded S.Store (C.tells clock.now) engine.old engine.new publisher.old.refused publisher.new.refused waiting
+        publisher.old.posted publisher.new.posted publisher.old.skipped missed 0 × SkipsFor f missed publisher.new.skipped) }
+    // What waited was taken together: `most` at once, or all.
+    ensures whole { TakesAll most publisher.old publisher.new }
     // All that is posted is what boards of the kept book name, each made behind a beginning of what is kept, at a moment of the clock.
     ensures posts { Posts S.Store (C.tells clock.now) engine.new publisher.old.posted publisher.new.posted }
     ensures found { engine.new.found ≡ engine.old.found }

@@ -27,3 +27,4 @@ pub mod OpenRuns
 pub mod Past
 pub mod Aside
 pub mod Moving
+pub mod Spans

@@ -5,3 +5,4 @@ pub mod States
 pub mod Coming
 pub mod Meaning
 pub mod Past
+pub mod Spans

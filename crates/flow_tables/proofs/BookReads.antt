@@ -45,7 +45,7 @@ module _ {A : Type 0} (value : Option Run → A) (b : Book) (m n : ℕ) (same : 
       let it = no_some (run_row m) (nth b.runs m) row is in
       subst (λ k. IsValue r (value (nth b.runs k))) same (subst (λ o. IsValue r (value o)) (sym it.1) (tells it.0 it.1 it.2))
 
-told_at : (b : Book) (n : ℕ) (r : Run) → AllByRecursion IsTold b.runs → nth b.runs n ≡ Some r → IsTold r
+pub told_at : (b : Book) (n : ℕ) (r : Run) → AllByRecursion IsTold b.runs → nth b.runs n ≡ Some r → IsTold r
 told_at b zero r all at = absurd (let clash = at in cc)
 told_at b (suc k) r all at = all_get IsTold b.runs k r all (sym (nth_is b.runs k) ∙ at)
 

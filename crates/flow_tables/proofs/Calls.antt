@@ -112,6 +112,27 @@ not_asked g t f value barred = record {
   follows = λ a before. before;
 }
 
+-- of whose value another one is made
+pub read_as : {V A B : Type 0} (g : Views V) (old new : V) (v : A) (w : B) (value : Book → A) (other : Book → B) → Recalled g old new (Ok v) value → (g.is_sure old → v ≡ value (g.book old) → w ≡ other (g.book old)) → Recalled g old new (Ok w) other
+read_as g old new v w value other read as_other = record {
+  reads = λ sure. let is = read.reads sure in (is.0, as_other (read.sure sure) is.1);
+  cause = λ a before now sure. tt;
+  goes_on = read.goes_on;
+  sure = read.sure;
+  was_true = read.was_true;
+  follows = read.follows;
+}
+
+pub refused_as : {V A B : Type 0} (g : Views V) (old new : V) (f : ViewFault) (value : Book → A) (other : Book → B) → Recalled {A = A} g old new (Err f) value → Recalled {A = B} g old new (Err f) other
+refused_as g old new f value other read = record {
+  reads = tt;
+  cause = read.cause;
+  goes_on = tt;
+  sure = read.sure;
+  was_true = read.was_true;
+  follows = read.follows;
+}
+
 -- or since the look was refused
 pub not_read : {V A B : Type 0} (g : Views V) (old new : V) (f : ViewFault) (value : Book → A) → Looked {A = B} g old new (Err f) → Recalled {A = A} g old new (Err f) value
 not_read g old new f value look = record {

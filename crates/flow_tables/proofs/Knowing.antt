@@ -1,6 +1,8 @@
 -- That the statements which are made, where so much is known of the rows, leave what all of them would.
 use Rattle.std.specs.Prelude.{◌≡◌, ◌∷◌, ◌+◌, if◌then◌else◌, ◌++◌}
-use Rattle.std.proofs.Common.{eqb-true}
+use Rattle.std.proofs.Common.{eqb-true, eq-eqb}
+use Rattle.std.specs.List.{list_any}
+use Rattle.flow_tables.specs.Puts.{is_task_at}
 use Rattle.flow_tables.proofs.Names.{timers_left, inl, inr, effect_of, Bytes, Run, OpenActivity, Turn, Effect, Cmd, Event, Input, Started, Came, Book, nth, is_open, state_of, traces, turn_events, is_other_task, marked, marked_row, with_event, with_run, with_timer, without_tasks, without_timers, event_row, of_run, task_row, timer_row, Tells, after_effect, after_turn, new_run, Tables, OutboxRow, RunRow, State, AllByRecursion, int_eq, Bool, List, Option, false, filter, int_lt, map, pos, true, ℕ, Changes, tables_in, OpenTasks, RowStanding, None, Some, length, ℤ, [], refl, suc, eqb as nat_eq, subst, ◌∙◌, sym, ap, arith, made_turn, true≢false, Stands, stands_what, made_event, made_events, begins, first_row, first_standing, started_timer, HasOnly, ended, stands_by, tasks_gone, timers_gone, made_effect, any_standing, tasks_known, opens_timer, cases_Bool, Decides-int_eq, TimerRow, head_of}
 use Rattle.std.proofs.lemmas.List.{map-append}
 use Rattle.sqlite_catalog.proofs.ListFacts.{filter_swap}
@@ -51,18 +53,33 @@ effect_is run s id at _ t h = refl
 
 ---- What is known stays true
 
+-- a row of another number stays
+still_there : (n m : ℕ) → nat_eq n m ≡ false → (rows : List OutboxRow) → list_any (is_task_at (pos n)) rows ≡ true → list_any (is_task_at (pos n)) (filter (is_other_task (pos m)) rows) ≡ true
+still_there n m apart [] there = there
+still_there n m apart (x ∷ rows) there = elim (cases_Bool (int_eq x.id (pos n))) [
+  | inl same ↦
+      elim (cases_Bool (int_eq x.id (pos m))) [
+        | inl met ↦
+            let numbers : pos n ≡ pos m = sym ((Decides-int_eq x.id (pos n)).0 same) ∙ (Decides-int_eq x.id (pos m)).0 met in
+            let is : n ≡ m = let e = numbers in cc in
+            absurd (true≢false (sym (eq-eqb n m is) ∙ apart))
+        | inr other ↦ rw other (rw same refl)
+      ]
+  | inr no ↦
+      let rest = still_there n m apart rows (rw no at there) in
+      elim (cases_Bool (int_eq x.id (pos m))) [
+        | inl gone ↦ rw gone rest
+        | inr stays ↦ rw stays (rw no rest)
+      ]
+]
+
 ended_only : (k : OpenTasks) (m : ℕ) (rows : List OutboxRow) → HasOnly k rows → HasOnly (ended k m) (filter (is_other_task (pos m)) rows)
 ended_only tasks.Gone m rows none = ap (filter (is_other_task (pos m))) none
 ended_only (tasks.Single n) m rows only = elim (cases_Bool (nat_eq n m)) [
-  | inl same ↦ rw same (subst (λ k. filter (is_other_task (pos k)) rows ≡ []) (eqb-true n m same) only)
-  | inr other ↦ rw other (filter_swap (is_other_task (pos n)) (is_other_task (pos m)) rows ∙ ap (filter (is_other_task (pos m))) only)
+  | inl same ↦ rw same (subst (λ k. filter (is_other_task (pos k)) rows ≡ []) (eqb-true n m same) only.0)
+  | inr other ↦ rw other (filter_swap (is_other_task (pos n)) (is_other_task (pos m)) rows ∙ ap (filter (is_other_task (pos m))) only.0, still_there n m other rows only.1)
 ]
 ended_only tasks.Unsure m rows only = tt
-
-none_only : (k : OpenTasks) → HasOnly k []
-none_only tasks.Gone = refl
-none_only (tasks.Single n) = refl
-none_only tasks.Unsure = tt
 
 timer_started : (run : ℤ) (s : RowStanding) (row : TimerRow) (t : Tables) (v : Bool) → Stands run s t → Stands run (record s { has_timers = true }) (if v then with_timer row t else t)
 timer_started run s row t true h = record { mark = h.mark; tasks = h.tasks; timers = λ none. absurd (true≢false none) }
@@ -84,7 +101,7 @@ stands_on run s id at (effect.EndsTimer n) t h = record {
 }
 stands_on run s id at (effect.Closes x) t h = record {
   mark = λ is. absurd (true≢false (sym is));
-  tasks = subst (HasOnly s.tasks) (sym (at_here run (λ _. []) t.outbox)) (none_only s.tasks);
+  tasks = at_here run (λ _. []) t.outbox;
   timers = λ none. at_here run (λ _. []) t.timers;
 }
 stands_on run s id at effect.Nothing t h = h
@@ -167,7 +184,7 @@ no_timer (e ∷ es) none = no_timer_more e es (opens_timer (effect_of e.what)) r
 
 tasks_only : (run : ℤ) (ts : List OpenActivity) → HasOnly (tasks_known ts) (map (task_row run) ts)
 tasks_only run [] = refl
-tasks_only run (x ∷ []) = let same : int_eq (pos x.event) (pos x.event) ≡ true = (Decides-int_eq (pos x.event) (pos x.event)).1 refl in rw same refl
+tasks_only run (x ∷ []) = let same : int_eq (pos x.event) (pos x.event) ≡ true = (Decides-int_eq (pos x.event) (pos x.event)).1 refl in (rw same refl, rw same refl)
 tasks_only run (x ∷ y ∷ ts) = tt
 
 pub no_timer_rows : (t : Tables) (b : Book) (n : ℕ) (r : Run) → Tells t b → nth b.runs n ≡ Some r → timers_left r.history ≡ [] → t.timers (pos n) ≡ []

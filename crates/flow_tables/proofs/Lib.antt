@@ -4,6 +4,7 @@ pub mod Stops
 pub mod Reopened
 pub mod Parts
 pub mod BookReads
+pub mod Histories
 pub mod Owning
 pub mod Wholes
 pub mod Causes
@@ -12,6 +13,7 @@ pub mod Stopping
 pub mod Reasons
 pub mod Knowing
 pub mod Succession
+pub mod Blocks
 pub mod Opened
 pub mod OpenTables
 pub mod Misreading

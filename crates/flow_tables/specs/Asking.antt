@@ -1,5 +1,5 @@
 -- What is asked of the tables in one statement, and what becomes of it.
-use Rattle.std.specs.Prelude.{◌≡◌, ◌⊎◌}
+use Rattle.std.specs.Prelude.{◌≡◌, ◌⊎◌, ◌++◌}
 use Rattle.flow_tables.specs.Names.{EventRow, with_event, Book, Change, Refusal, first as list_first, Tables, Held, state, Row, Executes, HasCleanDisk, State, Survives, Error, Ghosts, Bool, IfErr, List, MatchResult, Option, true, ℕ, Kind, Changes, HasEnded, Holds, IsAtRest, IsRefused, IsStill, tables_in, StoreFault, ViewFault, Err, Ok, Result, IsSome}
 use Rattle.sqlite.specs.declared.types.Value.{Value}
 use Rattle.sqlite.specs.Reading.{IsReadError}
@@ -39,6 +39,10 @@ pub record AreAsked {A : Type 0} (why : StoreFault → Type 0) (old new : State)
 -- of one of them
 abbrev pub IsAsked : {A : Type 0} → List ℕ → Row → List Kind → State → State → Result A StoreFault → (Tables → A → Type 0) → Type 0
 IsAsked sql params kinds old new result tells = AreAsked (IsReadFault kinds sql params old new) old new result tells
+
+-- what tells this was put behind what was there
+abbrev pub AreBehind : {A : Type 0} → (List A → Type 0) → List A → List A → Type 0
+AreBehind {A} tells before after = (more : List A) × tells more × (after ≡ before ++ more)
 
 -- it is the first of what tells this
 abbrev pub IsFirst : {A : Type 0} → (Tables → List A → Type 0) → Tables → Option A → Type 0

@@ -4,8 +4,11 @@ use Rattle.std.specs.Prelude.{◌≡◌, ◌⊎◌, ◌≢◌}
 use Rattle.flow_tables.specs.Names.{Held, state, Executes, State, Error, Ghosts, List, false, true, ℕ, IsOver, tables_in, Refusal, StoreFault, ViewFault, SqliteFailure, OutOfMemory, Err, Ok, [], Result, IsSome}
 use Rattle.flow_tables.specs.Names.{MoreFaults, HasOddText}
 use Rattle.flow_view.specs.declared.fault.ViewFault.TheVariants as view
+use Rattle.flow_view.specs.Reading.{Caused}
 use Rattle.flow_tables.specs.declared.fault.StoreFault.TheVariants.{NoMemory, Refused}
 use Rattle.flow_tables.specs.declared.fault.Refusal.TheVariants as refusal
+use Rattle.flow_tables.specs.declared.fault.Uncommitted.{Uncommitted}
+use Rattle.flow_tables.specs.declared.fault.Uncommitted.TheVariants as uncommitted
 use Rattle.flow_sql.specs.Coming.{IsFull}
 pub use Rattle.flow_sql.specs.States.{Since}
 
@@ -94,3 +97,13 @@ pub record IsCutOff (sql : List ℕ) (old new : State) (f : ViewFault) : Type 0 
   pub refused : Executes sql [] old new (Err error)
   pub told : f ≡ told_fault (refusal_of error)
   pub failed : f ≡ view.StoreRefused → HasFailed old new
+
+-- A commit was refused, or it wasn't asked for: the one fact or the other stands behind what is reported.
+abbrev pub WasFor : (ViewFault → Type 0) → (ViewFault → Type 0) → Uncommitted → Type 0
+WasFor cut barred (uncommitted.Cut c) = cut c.fault
+WasFor cut barred (uncommitted.Barred f) = barred f
+
+-- If E80 is reported the commit was asked for, and this stands behind its refusal.
+abbrev pub CausedEnd : {A : Type 0} → Result A Uncommitted → Type 0 → Type 0
+CausedEnd (Ok v) cause = Unit {0}
+CausedEnd (Err u) cause = WasFor (λ f. Caused {A = Unit {0}} (Err f) cause) (λ f. Caused {A = Unit {0}} (Err f) ⊥) u

@@ -14,4 +14,5 @@ pub mod Owned
 pub mod Calls
 pub mod Asking
 pub mod Asked
+pub mod Histories
 pub mod Low

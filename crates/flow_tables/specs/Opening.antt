@@ -15,7 +15,7 @@ use Rattle.flow_tables.specs.declared.fault.StoreFault.TheVariants as read
 use Rattle.flow_sql.specs.States.{Since, TellsFailure}
 use Rattle.flow_sql.specs.Layout.{Write, write_sql}
 use Rattle.flow_sql.specs.Stored.{HasOddText, event_params, kinds_of, LieByRun}
-use Rattle.flow_tables.specs.Reads.{IsReadFault}
+use Rattle.flow_tables.specs.Reads.{IsAskedWith, IsReadFault}
 
 ---- The format
 
@@ -106,7 +106,7 @@ IsMet {S} g e =
     (old new : Held S) × (sql : List ℕ)
     × (Executes sql [] (state g old) (state g new) (Err e)
     ⊎ (QueriesRow sql [] (state g old) (state g new) (Err e)
-    ⊎ (((r : Read) × (read_sql r ≡ sql) × IsReadFault (kinds_of r) sql [] (state g old) (state g new) (read.Refused e))
+    ⊎ (((r : Read) × (params : Row) × IsAskedWith r params × (read_sql r ≡ sql) × IsReadFault (kinds_of r) sql params (state g old) (state g new) (read.Refused e))
     ⊎ (((row : Row) × QueriesRow sql [] (state g old) (state g new) (Ok row) × IsReadError 0 (column row 0) e)
     ⊎ (((r : PastRead) × (past_sql r ≡ sql) × IsReadFault (past_kinds r) sql [] (state g old) (state g new) (read.Refused e))
     ⊎ (((r : EventRow) × (sql ≡ write_sql Write.insert_event) × Executes sql (event_params r) (state g old) (state g new) (Err e))

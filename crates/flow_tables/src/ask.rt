@@ -102,6 +102,9 @@ pub(crate) fn ask_said<Q: Question, S: Alter>(
 ) -> Result<Vec<Q::Item>, StoreFault>
     ensures asked { IsAsked (read_sql (Q.asks question.now).read) (Q.asks question.now).params Q.Item.kinds (state S.Store conn.old)
         (state S.Store conn.new) result (λ t v. (Q.asks question.now).tells t v.items) }
+    ensures said { HasCleanDisk (state S.Store conn.new)
+        → IfOk result (λ v. Tells Q.Item.said (read_sql (Q.asks question.now).read) (Q.asks question.now).params (state S.Store conn.old)
+        (state S.Store conn.new) v.items) }
     ensures shown { IfOk result (λ v. (rows : List SqlRow) × (v.items ≡ map Q.Item.said rows)) }
 {
     ask_rows(alloc, conn, question)

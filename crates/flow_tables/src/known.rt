@@ -16,7 +16,7 @@ use flow_view::history::is_open;
 #[derive(Clone, Copy, Debug, PartialEq, Eq)]
 pub enum OpenTasks {
     Gone,
-    /// At most that of the activity of this event.
+    /// That of the activity of this event, and no other.
     Single(EventId),
     Unsure,
 }
@@ -110,6 +110,7 @@ pub fn standing_after(standing: &RowStanding, what: &What) -> RowStanding
         Effect::Closes(_) => {
             after.is_open = false;
             after.is_marked = false;
+            after.tasks = OpenTasks::Gone;
         }
         Effect::EndsTimer(_) => {}
         Effect::Nothing => {}
@@ -122,6 +123,25 @@ pub fn begins(input: &Input) -> bool
     ensures { result ≡ words.begins input.now }
 {
     matches!(input, Input::Started(_))
+}
+
+fn is_only(tasks: &OpenTasks, event: EventId) -> bool
+    ensures { result ≡ words.is_only tasks.now event }
+{
+    match tasks {
+        OpenTasks::Single(only) => only.get() == event.get(),
+        _ => false,
+    }
+}
+
+/// Whether the activity of this event is known to be the run's only open one.
+pub(crate) fn is_single(known: &Option<KnownRun>, run: RunId, event: EventId) -> bool
+    ensures { result ≡ words.is_single known.now run event }
+{
+    match known {
+        Some(known) => known.number.get() == run.get() && is_only(&known.standing.tasks, event),
+        None => false,
+    }
 }
 
 fn tasks_known(tasks: &[OpenActivity]) -> OpenTasks

@@ -3,6 +3,7 @@
 
 pub mod all_rows;
 pub mod ask;
+pub mod blocks;
 pub mod book_changes;
 pub mod create;
 pub mod fault;
@@ -11,6 +12,7 @@ mod keys;
 pub mod known;
 mod learning;
 mod one_event;
+mod one_history;
 mod one_run;
 pub mod open;
 mod open_runs;

@@ -24,7 +24,7 @@ pub struct Brought {
 }
 
 /// What is noted of the answer to a ticket.
-fn noted(answer: Result<Receipt, NotDone>) -> Note {
+fn noted<B: Room>(answer: Result<Receipt, NotDone<B>>) -> Note {
     match answer {
         Ok(receipt) => note_of(&receipt),
         Err(instead) => refused_by(instead.code.number()),
@@ -35,7 +35,7 @@ fn noted(answer: Result<Receipt, NotDone>) -> Note {
 fn fetch_first<B: Room, R: Wait>(
     rt: &R,
     submitter: &mut Submitter<B>,
-    open: &mut VecDeque<Ticket>,
+    open: &mut VecDeque<Ticket<B>>,
     notes: &mut Vec<Note>,
 ) -> Option<()> {
     let ticket = open.pop_front()?;
@@ -48,7 +48,7 @@ fn submit<B: Room, R: Wait>(
     alloc: Global,
     submitter: &mut Submitter<B>,
     number: u64,
-    open: &mut VecDeque<Ticket>,
+    open: &mut VecDeque<Ticket<B>>,
     notes: &mut Vec<Note>,
 ) -> Option<()> {
     match submitter.submit(rt, command(alloc, number)?) {

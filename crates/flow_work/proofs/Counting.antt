@@ -14,7 +14,7 @@ use Rattle.flow_base.specs.declared.task.Task.{Task}
 use Rattle.flow_hub.specs.declared.fed.Fed.{Fed}
 use Rattle.flow_hub.specs.declared.fed.Fed.TheVariants as fed
 use Rattle.flow_hub.specs.declared.known.HubFacts.{HubFacts}
-use Rattle.flow_hub.specs.declared.ticket.Ticket.{Ticket}
+use Rattle.flow_hub.specs.declared.ticket.TicketFacts.{TicketFacts}
 use Rattle.flow_hub.specs.Knowing.{IsBefore, nothing}
 use Rattle.flow_hub.specs.Feeding.{HasFed}
 use Rattle.flow_hub.specs.Submitting.{Member}
@@ -90,7 +90,7 @@ more_rest given t xs e = (e.0 ++ t ∷ [], sym (append_assoc (tasks_in xs) e.0 (
 status_more : (xs : List Line) (x : Line) → max (final_status xs) (answer_status x) ≡ final_status (xs ++ x ∷ [])
 status_more xs x = ap (λ n. max (final_status xs) n) (sym (max-zero (answer_status x))) ∙ sym (status-append xs (x ∷ []))
 
-three_most : (x : Line) → max 3 (answer_status x) ≡ 3
+pub three_most : (x : Line) → max 3 (answer_status x) ≡ 3
 three_most (line.Of r) = refl
 three_most line.Bad = refl
 three_most (line.NotApplied c) = refl
@@ -131,7 +131,7 @@ status_task t old new false false same p e s =
 
 -- ---- what stands later too
 
-of_later : (k m : Member) → k.id ≡ m.id → IsBefore k.was m.was → (c : Command) (t : Ticket) → IsOf k c t → IsOf m c t
+of_later : (k m : Member) → k.id ≡ m.id → IsBefore k.was m.was → (c : Command) (t : TicketFacts) → IsOf k c t → IsOf m c t
 of_later k m same later c t is =
     let x : Taken = record { ticket = t.number; command = c } in
     (is.0 ∙ same, subst (λ (l : List Taken). slice_get l t.number ≡ Some x) later.asked.1 (get_front k.was.asked later.asked.0 t.number x is.1))
@@ -500,9 +500,9 @@ pub over : (reads : List ℕ → Option Command) (tells : ℕ → Type 0) (first
 over reads tells first feed k m ps rest lines page same later (inl e) c = inl e
 over reads tells first feed k m ps rest lines page same later (inr s) c = inr (quits reads tells first feed k m ps lines page same later s c)
 
-pub ends_given : (reads : List ℕ → Option Command) (tells : ℕ → Type 0) (m : Member) (ps : List Pending) (given was : List InputMessage) (x : InputMessage) → given ≡ was ++ x ∷ [] → IsOver x ps ⊎ Quits reads tells m → EndsTaking reads tells m ps given
-ends_given reads tells m ps given was x e (inl off) = inl (was, x, e, off)
-ends_given reads tells m ps given was x e (inr q) = inr q
+pub ends_given : (reads : List ℕ → Option Command) (tells : ℕ → Type 0) (m : Member) (ps : List Pending) (n : ℕ) (given was : List InputMessage) (x : InputMessage) → given ≡ was ++ x ∷ [] → IsOver x ps n ⊎ Quits reads tells m → EndsTaking reads tells m ps n given
+ends_given reads tells m ps n given was x e (inl off) = inl (was, x, e, off)
+ends_given reads tells m ps n given was x e (inr q) = inr q
 
 -- ---- the lines of what was given, and one more
 

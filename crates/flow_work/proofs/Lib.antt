@@ -1,6 +1,8 @@
 mod Counting
+mod Failing
 mod Firing
 mod Hearing
+mod Listening
 mod Printing
 mod Questions
 mod Ran

@@ -21,8 +21,8 @@ use Rattle.flow_hub.specs.Knowing.{IsBefore, IsSamePart, nothing}
 use Rattle.flow_hub.specs.Publishing.{Together}
 use Rattle.flow_hub.specs.Submitting.{Member, IsReceipt, IsNotDone, IsFor}
 use Rattle.flow_hub.specs.declared.known.HubFacts.{HubFacts}
-use Rattle.flow_hub.specs.declared.ticket.NotDone.{NotDone}
-use Rattle.flow_hub.specs.declared.ticket.Ticket.{Ticket}
+use Rattle.flow_hub.specs.declared.ticket.NotDoneFacts.{NotDoneFacts}
+use Rattle.flow_hub.specs.declared.ticket.TicketFacts.{TicketFacts}
 use Rattle.flow_hub.specs.declared.ticket.Why.{Why}
 use Rattle.flow_hub.specs.declared.ticket.Why.TheVariants as why
 use Rattle.flow_hub.proofs.Growing.{prefix_trans}
@@ -67,14 +67,14 @@ same_command : (o : Option Taken) (x y : Taken) → o ≡ Some x → o ≡ Some 
 same_command o x y p q = let same : x ≡ y = cc (p, q) in ap (λ (t : Taken). t.command) same
 
 -- what was submitted for a line is what has this number
-asked_at : (reads : List ℕ → Option Command) (tells : ℕ → Type 0) (m seen : Member) (bytes : List ℕ) (t : Ticket) (x : Taken) (n : ℕ) → IsBefore seen.was m.was → (w : IsSubmitted reads tells m bytes t) → n ≡ t.number → slice_get seen.was.asked n ≡ Some x → x.command ≡ command_at w.command w.at
+asked_at : (reads : List ℕ → Option Command) (tells : ℕ → Type 0) (m seen : Member) (bytes : List ℕ) (t : TicketFacts) (x : Taken) (n : ℕ) → IsBefore seen.was m.was → (w : IsSubmitted reads tells m bytes t) → n ≡ t.number → slice_get seen.was.asked n ≡ Some x → x.command ≡ command_at w.command w.at
 asked_at reads tells m seen bytes t x n before w is own =
     let there = w.ticket.1 in
     let later : slice_get m.was.asked n ≡ Some x = get_later seen.was.asked m.was.asked n x before.asked own in
     let now : slice_get m.was.asked t.number ≡ Some x = subst (λ k. slice_get m.was.asked k ≡ Some x) is later in
     same_command (slice_get m.was.asked t.number) x (record { ticket = t.number; command = command_at w.command w.at }) now there
 
-by_receipt : (reads : List ℕ → Option Command) (tells : ℕ → Type 0) (m seen : Member) (log : List Receipt) (bytes : List ℕ) (told : Line) (t : Ticket) (r : Receipt) → IsBefore seen.was m.was → IsPrefix m.was.history log → IsSubmitted reads tells m bytes t → IsReceipt seen t r
+by_receipt : (reads : List ℕ → Option Command) (tells : ℕ → Type 0) (m seen : Member) (log : List Receipt) (bytes : List ℕ) (told : Line) (t : TicketFacts) (r : Receipt) → IsBefore seen.was m.was → IsPrefix m.was.history log → IsSubmitted reads tells m bytes t → IsReceipt seen t r
     → Some told ≡ Some (line.Of r.reply) → IsReply reads tells log bytes told
 by_receipt reads tells m seen log bytes told t r before on w is e = record {
   receipt = r;
@@ -87,7 +87,7 @@ by_receipt reads tells m seen log bytes told t r before on w is e = record {
   told = same_Some told (line.Of r.reply) e;
 }
 
-by_why : (reads : List ℕ → Option Command) (tells : ℕ → Type 0) (m seen : Member) (refused : List Refused) (bytes : List ℕ) (told : Line) (t : Ticket) (n : NotDone) (w : Why) → IsBefore seen.was m.was → IsPrefix m.was.refused refused → IsSubmitted reads tells m bytes t → IsFor seen t n w
+by_why : (reads : List ℕ → Option Command) (tells : ℕ → Type 0) (m seen : Member) (refused : List Refused) (bytes : List ℕ) (told : Line) (t : TicketFacts) (n : NotDoneFacts) (w : Why) → IsBefore seen.was m.was → IsPrefix m.was.refused refused → IsSubmitted reads tells m bytes t → IsFor seen t n w
     → Some told ≡ line_instead w → IsUnapplied reads tells refused bytes told
 by_why reads tells m seen refused bytes told t n why.NotMine before on sent is e = absurd (cc e)
 by_why reads tells m seen refused bytes told t n (why.Refused code) before on sent is e =
@@ -102,7 +102,7 @@ by_why reads tells m seen refused bytes told t n (why.Refused code) before on se
       told = subst (λ c. Some told ≡ line_instead (why.Refused c)) (sym is.1.1) e;
     }
 
-by_ticket : (reads : List ℕ → Option Command) (tells : ℕ → Type 0) (m seen : Member) (log : List Receipt) (refused : List Refused) (bytes : List ℕ) (told : Line) (t : Ticket) → IsBefore seen.was m.was → IsPrefix m.was.history log → IsPrefix m.was.refused refused
+by_ticket : (reads : List ℕ → Option Command) (tells : ℕ → Type 0) (m seen : Member) (log : List Receipt) (refused : List Refused) (bytes : List ℕ) (told : Line) (t : TicketFacts) → IsBefore seen.was m.was → IsPrefix m.was.history log → IsPrefix m.was.refused refused
     → IsSubmitted reads tells m bytes t → IsToldOf seen t (Some told) → IsTelling reads tells log refused bytes told
 by_ticket reads tells m seen log refused bytes told t before on off w (inl (r, is, e)) = inl (by_receipt reads tells m seen log bytes told t r before on w is e)
 by_ticket reads tells m seen log refused bytes told t before on off w (inr (n, is, e)) = inr (inl (by_why reads tells m seen refused bytes told t n n.code before off w is.1 e))

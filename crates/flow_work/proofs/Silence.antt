@@ -5,7 +5,7 @@ use Rattle.flow_hub.specs.Knowing.{IsBefore}
 use Rattle.flow_hub.specs.Submitting.{Member}
 use Rattle.flow_hub.proofs.Growing.{before_self}
 use Rattle.flow_work.specs.Printing.{Printed}
-use Rattle.flow_work.specs.Silence.{IsUnanswered, IsSilent}
+use Rattle.flow_work.specs.Silence.{IsFewer, IsUnanswered, IsSilent}
 use Rattle.flow_work.specs.Telling.{AnswersFirst, HasTold}
 use Rattle.flow_work.specs.declared.queue.Pending.{Pending}
 
@@ -14,6 +14,11 @@ pub silent_first : (m : Member) (was now : List Pending) (told : Option Line) (o
 silent_first m [] now told on a off = absurd (cc (a.2, off))
 silent_first m (p ∷ ps) now (Some l) on a off = absurd (cc (a.2, off))
 silent_first m (p ∷ ps) now None on a off = inr (record { front = []; line = p; back = ps; are = refl; seen = m; same = refl; before = before_self m.was; without = a.1 })
+
+-- the oldest waits no more
+pub fewer : (m : Member) (was now : List Pending) (told : Option Line) (on : Bool) → AnswersFirst m was now told on → IsFewer was now
+fewer m [] now told on a = a.0
+fewer m (p ∷ ps) now told on a = a.0
 
 unanswered_behind : (m : Member) (front now was : List Pending) → front ++ now ≡ was → IsUnanswered m now → IsUnanswered m was
 unanswered_behind m front now was is u = record {

@@ -14,8 +14,8 @@ use Rattle.flow_serve.specs.Serving.{EndsFor, GivesUp, HasServed}
 use Rattle.flow_hub.specs.declared.denied.Denied.{Denied}
 use Rattle.flow_hub.specs.declared.denied.Denied.TheVariants as denied
 use Rattle.flow_queues.specs.declared.refused.Refused.{Refused}
-use Rattle.flow_hub.specs.declared.ticket.NotDone.{NotDone}
-use Rattle.flow_hub.specs.declared.ticket.Ticket.{Ticket}
+use Rattle.flow_hub.specs.declared.ticket.NotDoneFacts.{NotDoneFacts}
+use Rattle.flow_hub.specs.declared.ticket.TicketFacts.{TicketFacts}
 use Rattle.flow_hub.specs.declared.ticket.Why.{Why}
 use Rattle.flow_hub.specs.declared.ticket.Why.TheVariants as why
 use Rattle.flow_hub.specs.Submitting.{Member, IsReceipt, IsNotDone}
@@ -42,10 +42,10 @@ line_instead (why.Refused code.StoreRefused) = Some (line.NotApplied code.StoreR
 line_instead _ = None
 
 -- The line is that of the ticket's receipt; or the ticket has none, and the line says why.
-abbrev pub IsToldOf : Member → Ticket → Option Line → Type 0
+abbrev pub IsToldOf : Member → TicketFacts → Option Line → Type 0
 IsToldOf m ticket told =
     ((r : Receipt) × IsReceipt m ticket r × (told ≡ Some (line.Of r.reply)))
-    ⊎ ((n : NotDone) × IsNotDone m ticket n × (told ≡ line_instead n.code))
+    ⊎ ((n : NotDoneFacts) × IsNotDone m ticket n × (told ≡ line_instead n.code))
 
 -- An engine that ran has served to the end: what it took was committed batch by batch, each over the book that those before it left,
 -- a batch that wasn't applied was answered E80 or E01, and nothing else was answered by a code.

@@ -4,15 +4,15 @@ use Rattle.flow_base.specs.declared.command.Command.{Command}
 use Rattle.flow_base.specs.declared.command.Reply.{Reply}
 use Rattle.flow_base.specs.declared.submission.Receipt.{Receipt}
 use Rattle.flow_hub.specs.declared.denied.Denied.{Denied}
-use Rattle.flow_hub.specs.declared.ticket.NotDone.{NotDone}
-use Rattle.flow_hub.specs.declared.ticket.Ticket.{Ticket}
+use Rattle.flow_hub.specs.declared.ticket.NotDoneFacts.{NotDoneFacts}
+use Rattle.flow_hub.specs.declared.ticket.TicketFacts.{TicketFacts}
 use Rattle.flow_hub.specs.Submitting.{Member, IsDenied, IsReceipt, IsNotDone}
 use Rattle.flow_pool.specs.declared.report.Unheard.{Unheard}
 use Rattle.flow_work.specs.Endings.{unheard_denied, unheard_why}
 
 -- The reply is that of a receipt of this command, whose ticket was given meanwhile.
 pub record HasReply (old new : Member) (c : Command) (reply : Reply) : Type 0 where
-  pub ticket : Ticket
+  pub ticket : TicketFacts
   pub receipt : Receipt
   pub meanwhile : length old.was.asked ≤ ticket.number
   pub is : IsReceipt new ticket receipt
@@ -21,8 +21,8 @@ pub record HasReply (old new : Member) (c : Command) (reply : Reply) : Type 0 wh
 
 -- A ticket that was given meanwhile for this command was answered by a code, which says why.
 pub record HasCode (old new : Member) (c : Command) (why : Unheard) : Type 0 where
-  pub ticket : Ticket
-  pub instead : NotDone
+  pub ticket : TicketFacts
+  pub instead : NotDoneFacts
   pub meanwhile : length old.was.asked ≤ ticket.number
   pub is : IsNotDone new ticket instead
   pub command : instead.command ≡ Some c

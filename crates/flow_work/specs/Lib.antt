@@ -13,3 +13,5 @@ pub mod Serving
 pub mod Showing
 pub mod Silence
 pub mod Telling
+pub mod Waiting
+pub mod Working

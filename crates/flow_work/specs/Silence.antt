@@ -1,6 +1,9 @@
 -- Why nothing is answered any more.
-use Rattle.std.specs.Prelude.{◌≡◌, ◌⊎◌, ℕ, List, [], ◌∷◌, ◌++◌, true, Option, None}
+use Rattle.std.specs.Prelude.{◌≡◌, ◌⊎◌, ◌<◌, ℕ, List, [], ◌∷◌, ◌++◌, true, length, Option, None}
 use Rattle.flow_base.specs.declared.command.Command.{Command}
+use Rattle.flow_hub.specs.declared.fed.Fed.{Fed}
+use Rattle.flow_hub.specs.declared.known.HubFacts.{HubFacts}
+use Rattle.flow_hub.specs.Feeding.{HasFed}
 use Rattle.flow_hub.specs.Knowing.{IsBefore}
 use Rattle.flow_hub.specs.Submitting.{Member}
 use Rattle.flow_work.specs.Reading.{IsPendingOf}
@@ -38,14 +41,53 @@ pub record HasNoAnswer (reads : List ℕ → Option Command) (tells : ℕ → Ty
 abbrev pub Quits : (List ℕ → Option Command) → (ℕ → Type 0) → Member → Type 0
 Quits reads tells m = (m.was.closed ≡ true) ⊎ HasNoAnswer reads tells m
 
--- It is no line, and behind the end of the input, or where it can't be read, no line waits.
-abbrev pub IsOver : InputMessage → List Pending → Type 0
-IsOver (input.Line line) ps = ⊥
-IsOver input.Ended ps = ps ≡ []
-IsOver input.Failed ps = ps ≡ []
-IsOver input.Stopped ps = Unit {0}
+-- It is no line, and behind the end of the input, or where it can't be read, no line waits. Where it can't be read the status is 3.
+abbrev pub IsOver : InputMessage → List Pending → ℕ → Type 0
+IsOver (input.Line line) ps n = ⊥
+IsOver input.Ended ps n = ps ≡ []
+IsOver input.Failed ps n = (ps ≡ []) × (n ≡ 3)
+IsOver input.Stopped ps n = Unit {0}
 
 -- Why no line is taken in any more: what was given last is none, and no line waits behind the end; or nothing is answered any more.
-abbrev pub EndsTaking : (List ℕ → Option Command) → (ℕ → Type 0) → Member → List Pending → List InputMessage → Type 0
-EndsTaking reads tells m ps given =
-    ((before : List InputMessage) × (last : InputMessage) × (given ≡ before ++ last ∷ []) × IsOver last ps) ⊎ Quits reads tells m
+abbrev pub EndsTaking : (List ℕ → Option Command) → (ℕ → Type 0) → Member → List Pending → ℕ → List InputMessage → Type 0
+EndsTaking reads tells m ps n given =
+    ((before : List InputMessage) × (last : InputMessage) × (given ≡ before ++ last ∷ []) × IsOver last ps n) ⊎ Quits reads tells m
+
+-- The oldest of these lines waits no more.
+abbrev pub IsFewer : (was now : List Pending) → Type 0
+IsFewer [] now = now ≡ []
+IsFewer (p ∷ ps) now = now ≡ ps
+
+-- A line waited, and the oldest has its answer.
+abbrev pub AnswersOldest : (was now : List Pending) → Type 0
+AnswersOldest was now = (0 < length was) × IsFewer was now
+
+-- What was given next is dealt with; or nothing was given, and that was done.
+abbrev pub IsStep : (was now : List InputMessage) → Type 0 → Type 0
+IsStep was now does = ((x : InputMessage) × (now ≡ was ++ x ∷ [])) ⊎ ((now ≡ was) × does)
+
+-- ---- where tasks are printed too
+
+-- It was asked what is given out next.
+abbrev pub Listens : (old new : HubFacts) → Type 0
+Listens old new = (f : Fed) × HasFed old new f
+
+-- All tasks that were posted are given out, and a board was posted or left out since all that was taken was answered; or the hub is closed.
+abbrev pub HasAll : HubFacts → Type 0
+HasAll feed = ((feed.given ≡ feed.posted) × (feed.boarded ≡ true)) ⊎ (feed.closed ≡ true)
+
+-- As `IsOver`, and behind the end of the input all tasks are given out too.
+abbrev pub IsServed : InputMessage → List Pending → HubFacts → ℕ → Type 0
+IsServed (input.Line line) ps feed n = ⊥
+IsServed input.Ended ps feed n = (ps ≡ []) × HasAll feed
+IsServed input.Failed ps feed n = (ps ≡ []) × HasAll feed × (n ≡ 3)
+IsServed input.Stopped ps feed n = Unit {0}
+
+-- Nothing is answered any more, or no task is given out any more, since the hub is closed.
+abbrev pub IsShut : (List ℕ → Option Command) → (ℕ → Type 0) → Member → HubFacts → Type 0
+IsShut reads tells m feed = Quits reads tells m ⊎ (feed.closed ≡ true)
+
+-- Why no line is taken in any more: what was given last is none, and behind the end all is printed; or nothing is to be printed any more.
+abbrev pub EndsServed : (List ℕ → Option Command) → (ℕ → Type 0) → Member → List Pending → HubFacts → ℕ → List InputMessage → Type 0
+EndsServed reads tells m ps feed n given =
+    ((before : List InputMessage) × (last : InputMessage) × (given ≡ before ++ last ∷ []) × IsServed last ps feed n) ⊎ IsShut reads tells m feed

@@ -5,7 +5,7 @@ ghost use Rattle.flow_hub.specs.Knowing.{nothing};
 ghost use Rattle.flow_work.specs.Counting.{Counted, Counts, Goes, Owes};
 ghost use Rattle.flow_work.specs.Inputs.{Takes, lines_in};
 ghost use Rattle.flow_work.specs.Resting.{HasRested};
-ghost use Rattle.flow_work.specs.Silence.{EndsTaking, IsOver, Quits};
+ghost use Rattle.flow_work.specs.Silence.{AnswersOldest, EndsTaking, IsFewer, IsOver, IsStep, Quits};
 
 use crate::desk::Desk;
 use crate::giving::{Giving, Incoming};
@@ -106,6 +106,7 @@ impl<B: Room, W: Write + Drop> Clerk<B, W> {
         ensures ends { (first : Option (List ℕ)) → Counts line_command
             (C.tells clock.now) first nothing self.old.desk.submitter self.old.desk.pending.lines.items self.old.lines self.old.desk.page
             → (self.new.desk.pending.lines.items ≡ []) ⊎ Quits line_command (C.tells clock.now) self.new.desk.submitter }
+        ensures failed { self.old.desk.page.status ≡ 3 → self.new.desk.page.status ≡ 3 }
         ensures lines { self.new.lines ≡ self.old.lines }
     {
         self.desk.tell_all(rt);
@@ -118,7 +119,8 @@ impl<B: Room, W: Write + Drop> Clerk<B, W> {
             → Counted line_command (C.tells clock.now) first nothing self.new.desk.submitter self.new.lines self.new.desk.page }
         ensures ends { (first : Option (List ℕ)) → Counts line_command
             (C.tells clock.now) first nothing self.old.desk.submitter self.old.desk.pending.lines.items self.old.lines self.old.desk.page
-            → (self.new.desk.pending.lines.items ≡ []) ⊎ Quits line_command (C.tells clock.now) self.new.desk.submitter }
+            → ((self.new.desk.pending.lines.items ≡ []) × (self.new.desk.page.status ≡ 3))
+            ⊎ Quits line_command (C.tells clock.now) self.new.desk.submitter }
         ensures lines { self.new.lines ≡ self.old.lines }
     {
         self.desk.fail();
@@ -133,6 +135,7 @@ impl<B: Room, W: Write + Drop> Clerk<B, W> {
         ensures quits { (first : Option (List ℕ)) → Counts line_command
             (C.tells clock.now) first nothing self.old.desk.submitter self.old.desk.pending.lines.items self.old.lines self.old.desk.page
             → result ≡ false → Quits line_command (C.tells clock.now) self.new.desk.submitter }
+        ensures fewer { IsFewer self.old.desk.pending.lines.items self.new.desk.pending.lines.items }
         ensures lines { self.new.lines ≡ self.old.lines }
     {
         self.desk.tell_oldest(rt)
@@ -152,7 +155,7 @@ impl<B: Room, W: Write + Drop> Clerk<B, W> {
             → Goes line_command (C.tells clock.now) first result nothing self.new.desk.submitter self.new.desk.pending.lines.items self.new.lines self.new.desk.page }
         ensures quits { (first : Option (List ℕ)) → Counts line_command
             (C.tells clock.now) first nothing self.old.desk.submitter self.old.desk.pending.lines.items self.old.lines self.old.desk.page
-            → result ≡ false → IsOver input self.new.desk.pending.lines.items
+            → result ≡ false → IsOver input self.new.desk.pending.lines.items self.new.desk.page.status
             ⊎ Quits line_command (C.tells clock.now) self.new.desk.submitter }
         ensures lines { Takes input self.old.lines self.new.lines }
     {
@@ -184,7 +187,10 @@ impl<B: Room, W: Write + Drop> Clerk<B, W> {
         ensures ends { (first : Option (List ℕ)) → Counts line_command
             (C.tells clock.now) first nothing self.old.desk.submitter self.old.desk.pending.lines.items self.old.lines self.old.desk.page
             → result ≡ false → EndsTaking line_command (C.tells clock.now) self.new.desk.submitter self.new.desk.pending.lines.items
-            (G.given inputs.new) }
+            self.new.desk.page.status (G.given inputs.new) }
+        // No round passes in which nothing is done.
+        ensures steps { IsStep (G.given inputs.old) (G.given inputs.new)
+            (AnswersOldest self.old.desk.pending.lines.items self.new.desk.pending.lines.items) }
         ensures lines { self.old.lines ≡ lines_in (G.given inputs.old) → self.new.lines ≡ lines_in (G.given inputs.new) }
     {
         match self.desk.next_input(rt, inputs) {
@@ -207,7 +213,8 @@ impl<B: Room, W: Write + Drop> Clerk<B, W> {
             → Counted line_command (C.tells clock.now) first nothing self.new.desk.submitter self.new.lines self.new.desk.page }
         ensures ends { (first : Option (List ℕ)) → Counts line_command
             (C.tells clock.now) first nothing self.old.desk.submitter self.old.desk.pending.lines.items self.old.lines self.old.desk.page
-            → EndsTaking line_command (C.tells clock.now) self.new.desk.submitter self.new.desk.pending.lines.items (G.given inputs.new) }
+            → EndsTaking line_command (C.tells clock.now) self.new.desk.submitter self.new.desk.pending.lines.items
+            self.new.desk.page.status (G.given inputs.new) }
         ensures lines { self.old.lines ≡ lines_in (G.given inputs.old) → self.new.lines ≡ lines_in (G.given inputs.new) }
     {
         'steps: for _ in rt.forever() {

@@ -1,14 +1,16 @@
 //! The thread that submits lines, prints their replies in the order of the lines, and prints tasks in between.
-ghost use Rattle.std.specs.Prelude.{◌≡◌, ◌<◌, [], ℕ, List, Option, length};
+ghost use Rattle.std.specs.Prelude.{◌≡◌, ◌⊎◌, ◌<◌, [], ◌∷◌, ◌++◌, ℕ, List, Option, true, false, length};
 ghost use Rattle.flow_work.specs.Counting.{Counted, Counts, Goes, is_open, is_task};
+ghost use Rattle.flow_work.specs.Inputs.{Takes, lines_in};
 ghost use Rattle.flow_work.specs.Questions.{line_served};
+ghost use Rattle.flow_work.specs.Silence.{AnswersOldest, EndsServed, HasAll, IsServed, IsShut, IsStep, Listens, Quits};
 
 use crate::desk::Desk;
+use crate::giving::Giving;
 use crate::input::InputMessage;
 use crate::lines::{no_lines, with_line};
 use crate::page::Page;
 use crate::question::Accepted;
-use crossbeam_channel::Receiver;
 use flow_base::text::RawText;
 use flow_hub::fed::Fed;
 use flow_hub::feed::Feed;
@@ -82,9 +84,13 @@ impl<B: Room, W: Write + Drop> Counter<B, W> {
     /// Takes in a line. No where nothing is answered any more.
     fn take<R: Wait + time::Clock, C: Clock>(&mut self, rt: &R, clock: &C, line: Vec<u8>) -> bool
         requires { length self.old.desk.pending.lines.items < 64 }
-        ensures { (first : Option (List ℕ)) → Counts line_served
+        ensures counted { (first : Option (List ℕ)) → Counts line_served
             (C.tells clock.now) first self.old.feed self.old.desk.submitter self.old.desk.pending.lines.items self.old.lines self.old.desk.page
             → Goes line_served (C.tells clock.now) first result self.new.feed self.new.desk.submitter self.new.desk.pending.lines.items self.new.lines self.new.desk.page }
+        ensures quits { (first : Option (List ℕ)) → Counts line_served
+            (C.tells clock.now) first self.old.feed self.old.desk.submitter self.old.desk.pending.lines.items self.old.lines self.old.desk.page
+            → result ≡ false → Quits line_served (C.tells clock.now) self.new.desk.submitter }
+        ensures lines { self.new.lines ≡ self.old.lines ++ line.items ∷ [] }
     {
         let read = Snapshot::of(&line);
         let goes_on = self.desk.take_line(rt, clock, Accepted::QuestionsToo, line);
@@ -95,9 +101,12 @@ impl<B: Room, W: Write + Drop> Counter<B, W> {
 
     /// Prints the task that is given out next, or sleeps until there is something else to be done. No where nothing is any more.
     fn listen<R: Wait + time::Clock, C: Clock>(&mut self, rt: &R, _clock: &C) -> bool
-        ensures { (first : Option (List ℕ)) → Counts line_served
+        ensures counted { (first : Option (List ℕ)) → Counts line_served
             (C.tells _clock.now) first self.old.feed self.old.desk.submitter self.old.desk.pending.lines.items self.old.lines self.old.desk.page
             → Goes line_served (C.tells _clock.now) first result self.new.feed self.new.desk.submitter self.new.desk.pending.lines.items self.new.lines self.new.desk.page }
+        ensures closed { result ≡ false → self.new.feed.closed ≡ true }
+        ensures listens { Listens self.old.feed self.new.feed }
+        ensures lines { self.new.lines ≡ self.old.lines }
     {
         let fed = self.feed.listen(rt);
         self.desk.print_fed(rt, &fed);
@@ -106,9 +115,14 @@ impl<B: Room, W: Write + Drop> Counter<B, W> {
 
     /// Prints one more of the tasks that are ready once all that was submitted is answered. No where there is none.
     fn print_last<R: Wait + time::Clock, C: Clock>(&mut self, rt: &R, _clock: &C) -> bool
-        ensures { (first : Option (List ℕ)) → Counted line_served
+        ensures counted { (first : Option (List ℕ)) → Counted line_served
             (C.tells _clock.now) first self.old.feed self.old.desk.submitter self.old.lines self.old.desk.page
             → Counted line_served (C.tells _clock.now) first self.new.feed self.new.desk.submitter self.new.lines self.new.desk.page }
+        ensures all { result ≡ false → HasAll self.new.feed }
+        ensures pending { self.new.desk.pending.lines.items ≡ self.old.desk.pending.lines.items }
+        ensures submitter { self.new.desk.submitter ≡ self.old.desk.submitter }
+        ensures failed { self.old.desk.page.status ≡ 3 → self.new.desk.page.status ≡ 3 }
+        ensures lines { self.new.lines ≡ self.old.lines }
     {
         let fed = self.feed.last(rt);
         self.desk.print_fed(rt, &fed);
@@ -117,9 +131,14 @@ impl<B: Room, W: Write + Drop> Counter<B, W> {
 
     /// Prints all of these.
     fn print_all<R: Wait + time::Clock, C: Clock>(&mut self, rt: &R, clock: &C)
-        ensures { (first : Option (List ℕ)) → Counted line_served
+        ensures counted { (first : Option (List ℕ)) → Counted line_served
             (C.tells clock.now) first self.old.feed self.old.desk.submitter self.old.lines self.old.desk.page
             → Counted line_served (C.tells clock.now) first self.new.feed self.new.desk.submitter self.new.lines self.new.desk.page }
+        ensures all { HasAll self.new.feed }
+        ensures pending { self.new.desk.pending.lines.items ≡ self.old.desk.pending.lines.items }
+        ensures submitter { self.new.desk.submitter ≡ self.old.desk.submitter }
+        ensures failed { self.old.desk.page.status ≡ 3 → self.new.desk.page.status ≡ 3 }
+        ensures lines { self.new.lines ≡ self.old.lines }
     {
         'tasks: for _ in rt.forever() {
             if !self.print_last(rt, clock) {
@@ -131,9 +150,15 @@ impl<B: Room, W: Write + Drop> Counter<B, W> {
 
     /// Prints all replies that are to come, and then the tasks that are ready.
     fn end<R: Wait + time::Clock, C: Clock>(&mut self, rt: &R, clock: &C)
-        ensures { (first : Option (List ℕ)) → Counts line_served
+        ensures counted { (first : Option (List ℕ)) → Counts line_served
             (C.tells clock.now) first self.old.feed self.old.desk.submitter self.old.desk.pending.lines.items self.old.lines self.old.desk.page
             → Counted line_served (C.tells clock.now) first self.new.feed self.new.desk.submitter self.new.lines self.new.desk.page }
+        ensures ends { (first : Option (List ℕ)) → Counts line_served
+            (C.tells clock.now) first self.old.feed self.old.desk.submitter self.old.desk.pending.lines.items self.old.lines self.old.desk.page
+            → ((self.new.desk.pending.lines.items ≡ []) × HasAll self.new.feed)
+            ⊎ IsShut line_served (C.tells clock.now) self.new.desk.submitter self.new.feed }
+        ensures failed { self.old.desk.page.status ≡ 3 → self.new.desk.page.status ≡ 3 }
+        ensures lines { self.new.lines ≡ self.old.lines }
     {
         self.desk.tell_all(rt);
         self.print_all(rt, clock);
@@ -141,9 +166,14 @@ impl<B: Room, W: Write + Drop> Counter<B, W> {
 
     /// As `end`, where the input can't be read any more.
     fn fail<R: Wait + time::Clock, C: Clock>(&mut self, rt: &R, clock: &C)
-        ensures { (first : Option (List ℕ)) → Counts line_served
+        ensures counted { (first : Option (List ℕ)) → Counts line_served
             (C.tells clock.now) first self.old.feed self.old.desk.submitter self.old.desk.pending.lines.items self.old.lines self.old.desk.page
             → Counted line_served (C.tells clock.now) first self.new.feed self.new.desk.submitter self.new.lines self.new.desk.page }
+        ensures ends { (first : Option (List ℕ)) → Counts line_served
+            (C.tells clock.now) first self.old.feed self.old.desk.submitter self.old.desk.pending.lines.items self.old.lines self.old.desk.page
+            → ((self.new.desk.pending.lines.items ≡ []) × HasAll self.new.feed × (self.new.desk.page.status ≡ 3))
+            ⊎ IsShut line_served (C.tells clock.now) self.new.desk.submitter self.new.feed }
+        ensures lines { self.new.lines ≡ self.old.lines }
     {
         self.desk.fail();
         self.end(rt, clock);
@@ -151,9 +181,15 @@ impl<B: Room, W: Write + Drop> Counter<B, W> {
 
     /// Prints the oldest reply; where nothing is to be answered, a task, or sleeps until there is something. No where it is over.
     fn tell<R: Wait + time::Clock, C: Clock>(&mut self, rt: &R, clock: &C) -> bool
-        ensures { (first : Option (List ℕ)) → Counts line_served
+        ensures counted { (first : Option (List ℕ)) → Counts line_served
             (C.tells clock.now) first self.old.feed self.old.desk.submitter self.old.desk.pending.lines.items self.old.lines self.old.desk.page
             → Goes line_served (C.tells clock.now) first result self.new.feed self.new.desk.submitter self.new.desk.pending.lines.items self.new.lines self.new.desk.page }
+        ensures shut { (first : Option (List ℕ)) → Counts line_served
+            (C.tells clock.now) first self.old.feed self.old.desk.submitter self.old.desk.pending.lines.items self.old.lines self.old.desk.page
+            → result ≡ false → IsShut line_served (C.tells clock.now) self.new.desk.submitter self.new.feed }
+        ensures does { AnswersOldest self.old.desk.pending.lines.items self.new.desk.pending.lines.items
+            ⊎ Listens self.old.feed self.new.feed }
+        ensures lines { self.new.lines ≡ self.old.lines }
     {
         if self.desk.has_pending() {
             return self.desk.tell_oldest(rt);
@@ -161,45 +197,81 @@ impl<B: Room, W: Write + Drop> Counter<B, W> {
         self.listen(rt, clock)
     }
 
-    /// Takes in the line that is there; else tells of what it has. So a worker that writes its report before it reads on is never
-    /// waited for by one who waits for it: a task is printed only where no report waits. No where it is over.
+    /// Does what is to be done of what was read. No where it is no line and all is printed, or nothing is answered any more.
     #[tactic(auto, using(crate::proofs::Counting::goes_over, crate::proofs::Counting::counted))]
-    fn step<R: Wait + time::Clock, C: Clock>(
+    fn deal<R: Wait + time::Clock, C: Clock>(
         &mut self,
         rt: &R,
         clock: &C,
-        inputs: &Receiver<InputMessage>,
+        input: InputMessage,
     ) -> bool
-        ensures { (first : Option (List ℕ)) → Counts line_served
+        requires { length self.old.desk.pending.lines.items < 64 }
+        ensures counted { (first : Option (List ℕ)) → Counts line_served
             (C.tells clock.now) first self.old.feed self.old.desk.submitter self.old.desk.pending.lines.items self.old.lines self.old.desk.page
             → Goes line_served (C.tells clock.now) first result self.new.feed self.new.desk.submitter self.new.desk.pending.lines.items self.new.lines self.new.desk.page }
+        ensures shut { (first : Option (List ℕ)) → Counts line_served
+            (C.tells clock.now) first self.old.feed self.old.desk.submitter self.old.desk.pending.lines.items self.old.lines self.old.desk.page
+            → result ≡ false → IsServed input self.new.desk.pending.lines.items self.new.feed
+            self.new.desk.page.status ⊎ IsShut line_served (C.tells clock.now) self.new.desk.submitter self.new.feed }
+        ensures lines { Takes input self.old.lines self.new.lines }
     {
-        match self.desk.ready_input(rt, inputs) {
-            Some(InputMessage::Line(line)) => self.take(rt, clock, line),
-            Some(InputMessage::Ended) => {
+        match input {
+            InputMessage::Line(line) => self.take(rt, clock, line),
+            InputMessage::Ended => {
                 self.end(rt, clock);
                 false
             }
-            Some(InputMessage::Failed) => {
+            InputMessage::Failed => {
                 self.fail(rt, clock);
                 false
             }
-            Some(InputMessage::Stopped) => false,
+            InputMessage::Stopped => false,
+        }
+    }
+
+    /// Takes in the line that is there; else tells of what it has. So a worker that writes its report before it reads on is never
+    /// waited for by one who waits for it: a task is printed only where no report waits. No where it is over.
+    fn step<R: Wait + time::Clock, C: Clock, G: Giving>(
+        &mut self,
+        rt: &R,
+        clock: &C,
+        inputs: &mut G,
+    ) -> bool
+        ensures counted { (first : Option (List ℕ)) → Counts line_served
+            (C.tells clock.now) first self.old.feed self.old.desk.submitter self.old.desk.pending.lines.items self.old.lines self.old.desk.page
+            → Goes line_served (C.tells clock.now) first result self.new.feed self.new.desk.submitter self.new.desk.pending.lines.items self.new.lines self.new.desk.page }
+        ensures ends { (first : Option (List ℕ)) → Counts line_served
+            (C.tells clock.now) first self.old.feed self.old.desk.submitter self.old.desk.pending.lines.items self.old.lines self.old.desk.page
+            → result ≡ false → EndsServed line_served (C.tells clock.now) self.new.desk.submitter self.new.desk.pending.lines.items
+            self.new.feed self.new.desk.page.status (G.given inputs.new) }
+        // No round passes in which nothing is done.
+        ensures steps { IsStep (G.given inputs.old) (G.given inputs.new)
+            (AnswersOldest self.old.desk.pending.lines.items self.new.desk.pending.lines.items
+            ⊎ Listens self.old.feed self.new.feed) }
+        ensures lines { self.old.lines ≡ lines_in (G.given inputs.old) → self.new.lines ≡ lines_in (G.given inputs.new) }
+    {
+        match self.desk.ready_input(rt, inputs) {
+            Some(input) => self.deal(rt, clock, input),
             None => self.tell(rt, clock),
         }
     }
 
     /// Submits the lines that are read, each at the moment that the clock tells then, and prints their replies in the order of the
     /// lines, and tasks in between, until the input has ended and all is printed, or nothing is answered any more.
-    pub(crate) fn serve_lines<R: Wait + time::Clock, C: Clock>(
+    pub(crate) fn serve_lines<R: Wait + time::Clock, C: Clock, G: Giving>(
         &mut self,
         rt: &R,
         clock: &C,
-        inputs: &Receiver<InputMessage>,
+        inputs: &mut G,
     )
-        ensures { (first : Option (List ℕ)) → Counts line_served
+        ensures counted { (first : Option (List ℕ)) → Counts line_served
             (C.tells clock.now) first self.old.feed self.old.desk.submitter self.old.desk.pending.lines.items self.old.lines self.old.desk.page
             → Counted line_served (C.tells clock.now) first self.new.feed self.new.desk.submitter self.new.lines self.new.desk.page }
+        ensures ends { (first : Option (List ℕ)) → Counts line_served
+            (C.tells clock.now) first self.old.feed self.old.desk.submitter self.old.desk.pending.lines.items self.old.lines self.old.desk.page
+            → EndsServed line_served (C.tells clock.now) self.new.desk.submitter self.new.desk.pending.lines.items
+            self.new.feed self.new.desk.page.status (G.given inputs.new) }
+        ensures lines { self.old.lines ≡ lines_in (G.given inputs.old) → self.new.lines ≡ lines_in (G.given inputs.new) }
     {
         'steps: for _ in rt.forever() {
             if !self.step(rt, clock, inputs) {

@@ -1,13 +1,20 @@
 //! The threads that a running engine starts. Each owns all that it has.
-ghost use Rattle.std.specs.Prelude.{◌≡◌, IfErr, IfOk};
+ghost use Rattle.std.specs.Prelude.{◌≡◌, [], IfErr, IfOk, is_some};
 ghost use Rattle.flow_lines.specs.Commands.{line_command};
 ghost use Rattle.flow_hub.specs.Knowing.{nothing};
+ghost use Rattle.flow_pool.specs.Ends.{known_by, taken_by};
+ghost use Rattle.flow_pool.specs.Reports.{MayCome, is_left};
 ghost use Rattle.flow_work.specs.Counting.{Owes};
+ghost use Rattle.flow_work.specs.Working.{HasFired, HasHanded, HasHandedOn, HasWorked};
 
 use crate::clerk::{Answered, run_clerk};
 use crate::desk::Desk;
 use crate::handing::{Handing, Ringing};
 use crate::input::{InputMessage, Taking, read_lines};
+use crate::owing::{
+    Closing, Dispatching, LastRead, OwedLines, OwedTasks, OwedTicks, OwedWork, ReadingLines,
+    Timing, Worked, Working, last_read, worked_by,
+};
 use crate::progress::Progress;
 use crate::reports::Reporter;
 use crate::tasks::Tasks;
@@ -27,7 +34,7 @@ use std::alloc::{AllocError, Global};
 use std::io::{BufRead, Write};
 use std::snapshot::Snapshot;
 use std::sync::{Arc, Wait};
-use std::thread::{JoinHandle, Promise, PromisedHandle, Threads};
+use std::thread::{Promise, PromisedHandle, Threads};
 use std::{thread, time};
 
 /// Makes attempts until no task comes any more, or nothing is answered.
@@ -40,9 +47,17 @@ fn run_worker<B: Room, R: Wait + time::Clock, A: Activity + Drop, C: Clock, P: W
     unknown: Stranger<P>,
     clock: &C,
     group: WaitGroup,
-) {
-    drop(worker(rt, alloc, activities, receiver, reports, unknown, clock));
+) -> Worked<B>
+    ensures { HasWorked (C.tells clock.now) (MayCome A.named A.gives activities.items)
+        (is_left (is_some unknown.names) A.named activities.items) (taken_by receiver) (known_by result.receiver.value) reports.told
+        result.reports.value.told }
+{
+    let (end, told) = worker(rt, alloc, activities, receiver, reports, unknown, clock);
+    let worked = worked_by(&end, &told);
+    drop(end);
+    drop(told);
     drop(group);
+    worked
 }
 
 /// Hands tasks to the workers until none is posted any more. The workers end when its end of the channel is gone. Where the tasks came
@@ -52,26 +67,46 @@ fn run_dispatcher<B: Room, R: Wait>(
     tasks: Tasks<B>,
     sender: TaskSender,
     group: WaitGroup,
-) -> Tasks<B> {
-    let (sender, tasks) = dispatcher(rt, tasks, sender);
-    drop(sender);
+) -> Tasks<B>
+    ensures { HasHanded tasks.feed result.feed }
+{
+    let (end, posted) = dispatcher(rt, tasks, sender);
+    drop(end);
     drop(group);
-    tasks
+    posted
 }
 
+/// Fires what is due until nothing is answered any more.
 fn run_timer<B: Room, R: Wait + time::Clock, C: Clock>(
     rt: &R,
     reports: Reporter<B>,
     clock: &C,
     group: WaitGroup,
-) {
-    drop(fire_timers(rt, reports, clock));
+) -> Snapshot<Reporter<B>>
+    ensures { HasFired (C.tells clock.now) result.value.submitter.was reports.told result.value.told }
+{
+    let told = fire_timers(rt, reports, clock);
+    let fired = Snapshot::of(&told);
+    drop(told);
     drop(group);
+    fired
 }
 
 /// Reads until the input has ended, or nobody takes it any more.
-fn run_reader<R: Wait, I: BufRead + Drop, T: Taking>(rt: &R, alloc: Global, reader: I, taking: T) {
-    drop(read_lines(rt, alloc, reader, taking));
+fn run_reader<R: Wait, I: BufRead + Drop, T: Taking>(
+    rt: &R,
+    alloc: Global,
+    reader: I,
+    taking: T,
+) -> LastRead<I, T>
+    ensures { HasHandedOn (T.gone result.taking.value) (I.remaining reader) (I.remaining result.reader.value) (T.taken taking)
+        (T.taken result.taking.value) }
+{
+    let (reader_left, taking_left) = read_lines(rt, alloc, reader, taking);
+    let read = last_read(&reader_left, &taking_left);
+    drop(reader_left);
+    drop(taking_left);
+    read
 }
 
 /// All that the thread has that answers lines.
@@ -90,21 +125,28 @@ pub(crate) struct OwedReplies<B: Room, W: Write, C> {
     pub(crate) clock: Snapshot<C>,
 }
 
-impl<B: Room, W: Write, C: Clock> Promise<Answered<B, W>> for OwedReplies<B, W, C> {
+impl<B: Room, W: Write, C: Clock> Promise<Closing<B, Answered<B, W>>> for OwedReplies<B, W, C> {
     ghost use Rattle.flow_lines.specs.Commands.{line_command};
     ghost use Rattle.flow_hub.specs.Knowing.{nothing};
     ghost use Rattle.flow_work.specs.Counting.{Owes};
 
-    ghost kept_by = { λ p r. Owes line_command (C.tells p.clock.value) p.desk.value.page p.desk.value.pending.lines.items nothing nothing r.submitter r.lines r.page };
+    ghost kept_by = { λ p r. Owes line_command (C.tells p.clock.value) p.desk.value.page p.desk.value.pending.lines.items nothing nothing r.left.submitter r.left.lines r.left.page };
 }
+
+/// A thread that answers lines.
+pub(crate) type Answering<B, W, C> = PromisedHandle<
+    Closing<B, Answered<B, W>>,
+    OwedReplies<B, W, C>,
+>;
 
 /// Answers lines until the input has ended and no run is open, and then closes the hub.
 fn run_desk<B: Room, W: Write + Drop, R: Wait + time::Clock, C: Clock, P: Write + Drop>(
     rt: &R,
     answerer: Answerer<B, W, P>,
     clock: &C,
-) -> Answered<B, W>
-    ensures { Owes line_command (C.tells clock.now) answerer.desk.page answerer.desk.pending.lines.items nothing nothing result.submitter result.lines result.page }
+) -> Closing<B, Answered<B, W>>
+    ensures { Owes line_command (C.tells clock.now) answerer.desk.page answerer.desk.pending.lines.items nothing nothing
+        result.left.submitter result.left.lines result.left.page }
 {
     let Answerer {
         desk,
@@ -113,8 +155,11 @@ fn run_desk<B: Room, W: Write + Drop, R: Wait + time::Clock, C: Clock, P: Write 
         progress,
     } = answerer;
     let answered = run_clerk(rt, desk, clock, inputs, progress);
-    hub.close(rt);
-    answered
+    let seen = hub.close(rt);
+    Closing {
+        left: answered,
+        seen,
+    }
 }
 
 /// Starts a thread that runs a worker. E01 where there is none.
@@ -127,23 +172,33 @@ pub(crate) fn start_worker<B, R, A, C, P>(
     unknown: Stranger<P>,
     clock: C,
     group: WaitGroup,
-) -> Result<(), Fault>
+) -> Result<Working<B, A, C, P>, Fault>
 where
     B: Room + Send + Sync + 'static,
     R: Threads + Wait + time::Clock + Copy + Send + Drop + 'static,
     A: Activity + Drop + Send + 'static,
     C: Clock + Copy + Send + Drop + 'static,
     P: Write + Drop + Send + 'static,
-    ensures { IfErr result (λ f. f ≡ Fault.NoMemory _) }
+    ensures owed { IfOk result (λ h. (h.promise.activities.value ≡ activities) × (h.promise.receiver.value ≡ receiver)
+        × (h.promise.clock.value ≡ clock)) }
+    ensures refused { IfErr result (λ f. f ≡ Fault.NoMemory _) }
 {
     let its = *rt;
-    match thread::spawn(
+    let owed = OwedWork {
+        activities: Snapshot::of(&activities),
+        receiver: Snapshot::of(&receiver),
+        reports: Snapshot::of(&reports),
+        unknown: Snapshot::of(&unknown),
+        clock: Snapshot::of(&clock),
+    };
+    match thread::spawn_with(
         rt,
+        owed,
         move || run_worker(
             &its, alloc, activities, receiver, reports, unknown, &clock, group,
         ),
     ) {
-        Ok(_thread) => Ok(()),
+        Ok(thread) => Ok(thread),
         Err(refused) => Err(Fault::from(AllocError::from(refused))),
     }
 }
@@ -154,14 +209,18 @@ pub(crate) fn start_dispatcher<B, R>(
     tasks: Tasks<B>,
     sender: TaskSender,
     group: WaitGroup,
-) -> Result<JoinHandle<Tasks<B>>, Fault>
+) -> Result<Dispatching<B>, Fault>
 where
     B: Room + Send + Sync + 'static,
     R: Threads + Wait + Copy + Send + Drop + 'static,
-    ensures { IfErr result (λ f. f ≡ Fault.NoMemory _) }
+    ensures owed { IfOk result (λ h. h.promise.tasks.value ≡ tasks) }
+    ensures refused { IfErr result (λ f. f ≡ Fault.NoMemory _) }
 {
     let its = *rt;
-    match thread::spawn(rt, move || run_dispatcher(&its, tasks, sender, group)) {
+    let owed = OwedTasks {
+        tasks: Snapshot::of(&tasks),
+    };
+    match thread::spawn_with(rt, owed, move || run_dispatcher(&its, tasks, sender, group)) {
         Ok(thread) => Ok(thread),
         Err(refused) => Err(Fault::from(AllocError::from(refused))),
     }
@@ -173,59 +232,87 @@ pub(crate) fn start_timer<B, R, C>(
     reports: Reporter<B>,
     clock: C,
     group: WaitGroup,
-) -> Result<(), Fault>
+) -> Result<Timing<B, C>, Fault>
 where
     B: Room + Send + Sync + 'static,
     R: Threads + Wait + time::Clock + Copy + Send + Drop + 'static,
     C: Clock + Copy + Send + Drop + 'static,
-    ensures { IfErr result (λ f. f ≡ Fault.NoMemory _) }
+    ensures owed { IfOk result (λ h. (h.promise.reports.value ≡ reports) × (h.promise.clock.value ≡ clock)) }
+    ensures refused { IfErr result (λ f. f ≡ Fault.NoMemory _) }
 {
     let its = *rt;
-    match thread::spawn(rt, move || run_timer(&its, reports, &clock, group)) {
-        Ok(_thread) => Ok(()),
+    let owed = OwedTicks {
+        reports: Snapshot::of(&reports),
+        clock: Snapshot::of(&clock),
+    };
+    match thread::spawn_with(rt, owed, move || run_timer(&its, reports, &clock, group)) {
+        Ok(thread) => Ok(thread),
         Err(refused) => Err(Fault::from(AllocError::from(refused))),
     }
 }
 
 /// Starts the thread that reads. E01 where there is none. Nobody waits for it, since no call ends a read that has begun.
+fn start_reading<R, I, T>(
+    rt: &R,
+    alloc: Global,
+    reader: I,
+    taking: T,
+) -> Result<ReadingLines<I, T>, Fault>
+where
+    R: Threads + Wait + Copy + Send + Drop + 'static,
+    I: BufRead + Drop + Send + 'static,
+    T: Taking + Send + 'static,
+    ensures owed { IfOk result (λ h. (h.promise.reader.value ≡ reader) × (h.promise.taking.value ≡ taking)) }
+    ensures refused { IfErr result (λ f. f ≡ Fault.NoMemory _) }
+{
+    let its = *rt;
+    let owed = OwedLines {
+        reader: Snapshot::of(&reader),
+        taking: Snapshot::of(&taking),
+    };
+    match thread::spawn_with(rt, owed, move || run_reader(&its, alloc, reader, taking)) {
+        Ok(thread) => Ok(thread),
+        Err(refused) => Err(Fault::from(AllocError::from(refused))),
+    }
+}
+
+/// Starts the thread that reads and hands on.
 pub(crate) fn start_reader<R, I>(
     rt: &R,
     alloc: Global,
     reader: I,
     lines: Sender<InputMessage>,
-) -> Result<(), Fault>
+) -> Result<ReadingLines<I, Handing>, Fault>
 where
     R: Threads + Wait + Copy + Send + Drop + 'static,
     I: BufRead + Drop + Send + 'static,
-    ensures { IfErr result (λ f. f ≡ Fault.NoMemory _) }
+    ensures owed { IfOk result (λ h. (h.promise.reader.value ≡ reader) × (h.promise.taking.value.taken ≡ [])) }
+    ensures refused { IfErr result (λ f. f ≡ Fault.NoMemory _) }
 {
-    let its = *rt;
-    let handing = Handing::new(lines);
-    match thread::spawn(rt, move || run_reader(&its, alloc, reader, handing)) {
-        Ok(_thread) => Ok(()),
-        Err(refused) => Err(Fault::from(AllocError::from(refused))),
+    match start_reading(rt, alloc, reader, Handing::new(lines)) {
+        Ok(thread) => Ok(thread),
+        Err(fault) => Err(fault),
     }
 }
 
-/// Starts the thread that reads and rings. E01 where there is none. Nobody waits for it.
+/// Starts the thread that reads, hands on and rings.
 pub(crate) fn start_ringing<B, R, I>(
     rt: &R,
     alloc: Global,
     reader: I,
     lines: Sender<InputMessage>,
     hub: Arc<Hub<B>, Global>,
-) -> Result<(), Fault>
+) -> Result<ReadingLines<I, Ringing<B>>, Fault>
 where
     B: Room + Send + Sync + 'static,
     R: Threads + Wait + Copy + Send + Drop + 'static,
     I: BufRead + Drop + Send + 'static,
-    ensures { IfErr result (λ f. f ≡ Fault.NoMemory _) }
+    ensures owed { IfOk result (λ h. (h.promise.reader.value ≡ reader) × (h.promise.taking.value.handing.taken ≡ [])) }
+    ensures refused { IfErr result (λ f. f ≡ Fault.NoMemory _) }
 {
-    let its = *rt;
-    let ringing = Ringing::new(lines, hub);
-    match thread::spawn(rt, move || run_reader(&its, alloc, reader, ringing)) {
-        Ok(_thread) => Ok(()),
-        Err(refused) => Err(Fault::from(AllocError::from(refused))),
+    match start_reading(rt, alloc, reader, Ringing::new(lines, hub)) {
+        Ok(thread) => Ok(thread),
+        Err(fault) => Err(fault),
     }
 }
 
@@ -234,7 +321,7 @@ pub(crate) fn start_desk<B, R, W, C, P>(
     rt: &R,
     answerer: Answerer<B, W, P>,
     clock: C,
-) -> Result<PromisedHandle<Answered<B, W>, OwedReplies<B, W, C>>, Fault>
+) -> Result<Answering<B, W, C>, Fault>
 where
     B: Room + Send + Sync + 'static,
     R: Threads + Wait + time::Clock + Copy + Send + Drop + 'static,

@@ -18,9 +18,8 @@ use crate::moments::command_at;
 use crate::page::Page;
 use crate::progress::Progress;
 use crate::question::{Accepted, read_as};
-use crate::queue::{MOST_PENDING, Pending, Queue};
+use crate::queue::{MOST_PENDING, PendingLine, Queue, Waiting};
 use crate::status::Status;
-use crossbeam_channel::Receiver;
 use flow_base::code::Code;
 use flow_base::command::Command;
 use flow_base::memory::NoMemory;
@@ -47,7 +46,7 @@ const LONGEST_REST: u64 = 1_000;
 pub(crate) struct Desk<B: Room, W: Write> {
     alloc: Global,
     submitter: Submitter<B>,
-    pending: Queue,
+    pending: Queue<B>,
     page: Page<W>,
 }
 
@@ -63,7 +62,11 @@ fn line_instead(why: Why) -> Option<Line>
 }
 
 /// The answer to a ticket. None where nothing is answered any more.
-fn answer_to<B: Room, R: Wait>(rt: &R, submitter: &mut Submitter<B>, ticket: Ticket) -> Option<Line>
+fn answer_to<B: Room, R: Wait>(
+    rt: &R,
+    submitter: &mut Submitter<B>,
+    ticket: Ticket<B>,
+) -> Option<Line>
     ensures told { IsToldOf submitter.new ticket result }
     ensures grows { IsBefore submitter.old.was submitter.new.was }
     ensures same { submitter.new.id ≡ submitter.old.id }
@@ -79,15 +82,15 @@ fn answer_to<B: Room, R: Wait>(rt: &R, submitter: &mut Submitter<B>, ticket: Tic
 fn answer_of<B: Room, R: Wait>(
     rt: &R,
     submitter: &mut Submitter<B>,
-    pending: Pending,
+    pending: PendingLine<B>,
 ) -> Option<Line>
     ensures answer { IsAnswer submitter.new pending result }
     ensures grows { IsBefore submitter.old.was submitter.new.was }
     ensures same { submitter.new.id ≡ submitter.old.id }
 {
-    match pending {
-        Pending::Submitted(ticket) => answer_to(rt, submitter, ticket),
-        Pending::Known(line) => Some(line),
+    match pending.line {
+        Waiting::Submitted(ticket) => answer_to(rt, submitter, ticket),
+        Waiting::Known(line) => Some(line),
     }
 }
 
@@ -96,7 +99,7 @@ impl<B: Room, W: Write + Drop> Desk<B, W> {
     pub(crate) fn new(
         alloc: Global,
         submitter: Submitter<B>,
-        pending: Queue,
+        pending: Queue<B>,
         writer: W,
     ) -> Desk<B, W>
         ensures parts { (result.submitter ≡ submitter) × (result.pending ≡ pending) }
@@ -179,7 +182,7 @@ impl<B: Room, W: Write + Drop> Desk<B, W> {
 
     /// Submits a command until it is taken in. None where nothing is answered any more.
     #[tactic(auto, using(crate::proofs::Telling::told_none, crate::proofs::Telling::told_then, crate::proofs::Telling::told_later, crate::proofs::Telling::told_ends, flow_hub::proofs::Growing::before_trans))]
-    fn submit<R: Wait + time::Clock>(&mut self, rt: &R, command: Command) -> Option<Ticket>
+    fn submit<R: Wait + time::Clock>(&mut self, rt: &R, command: Command) -> Option<Ticket<B>>
         ensures ticket { IfSome result (λ t. IsOf self.new.submitter command t) }
         ensures silent { IfNone result (IsSilent self.new.submitter self.old.pending.lines.items) }
         ensures told { HasTold self.new.submitter
@@ -210,7 +213,7 @@ impl<B: Room, W: Write + Drop> Desk<B, W> {
         clock: &C,
         accepted: Accepted,
         line: Vec<u8>,
-    ) -> Option<Pending>
+    ) -> Option<PendingLine<B>>
         ensures pending { IfSome result (λ p. IsPendingOf (read_as accepted) (C.tells clock.now) self.new.submitter line.items p) }
         ensures silent { IfNone result (IsSilent self.new.submitter self.old.pending.lines.items) }
         ensures told { HasTold self.new.submitter
@@ -222,11 +225,11 @@ impl<B: Room, W: Write + Drop> Desk<B, W> {
         match read_as(self.alloc, accepted, line.as_slice()) {
             Ok(command) => {
                 let ticket = self.submit(rt, command_at(command, clock.now()))?;
-                Some(Pending::Submitted(ticket))
+                Some(PendingLine::submitted(ticket))
             }
-            Err(LineFault::NotACommand) => Some(Pending::Known(Line::Bad)),
+            Err(LineFault::NotACommand) => Some(PendingLine::known(Line::Bad)),
             Err(LineFault::NoMemory(no_memory)) => {
-                Some(Pending::Known(Line::NotApplied(no_memory.code())))
+                Some(PendingLine::known(Line::NotApplied(no_memory.code())))
             },
         }
     }
@@ -265,6 +268,8 @@ impl<B: Room, W: Write + Drop> Desk<B, W> {
         inputs: &mut G,
     ) -> Option<InputMessage>
         ensures room { IfSome result (λ _. length self.now.pending.lines.items < 64) }
+        // Where nothing waits for a reply it waits for what is read.
+        ensures waits { IfNone result (0 < length self.now.pending.lines.items) }
         ensures given { MatchOption result (G.given inputs.new ≡ G.given inputs.old)
             (λ i. G.given inputs.new ≡ G.given inputs.old ++ i ∷ []) }
     {
@@ -279,22 +284,25 @@ impl<B: Room, W: Write + Drop> Desk<B, W> {
     }
 
     /// What is read next, if it is there and room is left for what waits for a reply.
-    pub(crate) fn ready_input<R: Wait>(
+    pub(crate) fn ready_input<R: Wait, G: Giving>(
         &self,
         rt: &R,
-        inputs: &Receiver<InputMessage>,
+        inputs: &mut G,
     ) -> Option<InputMessage>
-        ensures { IfSome result (λ _. length self.now.pending.lines.items < 64) }
+        ensures room { IfSome result (λ _. length self.now.pending.lines.items < 64) }
+        ensures given { MatchOption result (G.given inputs.new ≡ G.given inputs.old)
+            (λ i. G.given inputs.new ≡ G.given inputs.old ++ i ∷ []) }
     {
         if self.pending.len() >= MOST_PENDING {
             return None;
         }
-        inputs.try_recv(rt).ok()
+        inputs.ready(rt)
     }
 
     /// Whether a line waits for its reply.
     pub(crate) fn has_pending(&self) -> bool
-        ensures { result ≡ false → self.now.pending.lines.items ≡ [] }
+        ensures none { result ≡ false → self.now.pending.lines.items ≡ [] }
+        ensures some { result ≡ true → 0 < length self.now.pending.lines.items }
     {
         self.pending.len() != 0
     }

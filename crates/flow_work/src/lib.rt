@@ -12,6 +12,7 @@ pub mod handing;
 pub mod input;
 pub mod lines;
 pub mod moments;
+pub mod owing;
 pub mod page;
 pub mod progress;
 pub mod question;

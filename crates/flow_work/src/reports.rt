@@ -89,7 +89,7 @@ fn unheard_why(why: Why) -> Unheard
 }
 
 /// The command that comes back, and why.
-fn unheard_of(instead: NotDone) -> (Command, Unheard)
+fn unheard_of<B: Room>(instead: NotDone<B>) -> (Command, Unheard)
     requires { (c : ACommand) × (instead.command ≡ Some c) }
     ensures back { instead.command ≡ Some result.0 }
     ensures why { result.1 ≡ unheard_why instead.code }

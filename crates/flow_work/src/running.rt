@@ -1,5 +1,5 @@
 //! A running engine: the threads around the one that serves.
-ghost use Rattle.std.specs.Prelude.{◌≡◌, ◌≤◌, [], IfOk, IfErr, OnOk};
+ghost use Rattle.std.specs.Prelude.{◌≡◌, ◌≤◌, [], length, IfOk, IfErr, OnOk};
 ghost use Rattle.flow_hub.specs.Knowing.{IsBefore, IsSamePart, nothing};
 ghost use Rattle.flow_hub.specs.Seating.{IsRoomOf};
 ghost use Rattle.flow_engine.specs.Answering.{Follows};
@@ -8,15 +8,16 @@ ghost use Rattle.flow_work.specs.Printing.{blank};
 ghost use Rattle.flow_work.specs.Serving.{PrintsReplies, ServedBy};
 
 use crate::clerk::Answered;
-use crate::crew::{Answerer, OwedReplies, start_desk, start_reader, start_timer};
+use crate::crew::{Answerer, Answering, start_desk, start_reader, start_timer};
 use crate::desk::Desk;
 use crate::ended::Ended;
+use crate::handing::Handing;
 use crate::input::InputMessage;
+use crate::owing::{Closing, Dispatching, ReadingLines, Timing, Working};
 use crate::progress::Progress;
 use crate::queue::Queue;
 use crate::skills::Skills;
 use crate::tally::Tally;
-use crate::tasks::Tasks;
 use crate::unknown::{Strangers, UnknownActivity};
 use crate::workers::{reporter, start_pool, unseated_fault};
 use crossbeam_channel::{Receiver, Sender, bounded};
@@ -37,7 +38,7 @@ use std::alloc::{AllocError, Global};
 use std::io::{BufRead, Write};
 use std::marker::Brand;
 use std::sync::{Arc, Wait};
-use std::thread::{JoinHandle, PromisedHandle, Threads};
+use std::thread::Threads;
 use std::time;
 
 /// How many lines may be read ahead.
@@ -48,7 +49,7 @@ pub(crate) struct Opening<B: Room> {
     pub(crate) lines: Sender<InputMessage>,
     pub(crate) own_lines: Sender<InputMessage>,
     pub(crate) inputs: Receiver<InputMessage>,
-    pub(crate) pending: Queue,
+    pub(crate) pending: Queue<B>,
     pub(crate) submitter: Submitter<B>,
     pub(crate) hub: Arc<Hub<B>, Global>,
 }
@@ -80,18 +81,23 @@ pub(crate) fn open_lines<B: Room, R: Wait>(
     }
 }
 
-/// Who answers lines.
-type Answering<B, W, C> = PromisedHandle<Answered<B, W>, OwedReplies<B, W, C>>;
-
-/// The same, and the end by which it is told that no line is answered any more.
-type Telling<B, W, C> = (Answering<B, W, C>, Sender<InputMessage>);
-
-/// The same, and who hands out tasks.
-type Started<B, W, C> = (
+/// Who answers lines, the end by which it is told that no line is answered any more, and who reads.
+type Telling<B, I, W, C> = (
     Answering<B, W, C>,
     Sender<InputMessage>,
-    JoinHandle<Tasks<B>>,
+    ReadingLines<I, Handing>,
 );
+
+/// Those who need no line: who fires what is due, who hands out tasks, and who makes attempts of them.
+#[derive(Drop)]
+struct Crew<B: Room, A: Activity, C: Clock, P: Write> {
+    timing: Timing<B, C>,
+    dispatching: Dispatching<B>,
+    workers: Vec<Working<B, A, C, P>>,
+}
+
+/// All threads but the one that serves.
+type Started<B, I, A, W, C, P> = (Telling<B, I, W, C>, Crew<B, A, C, P>);
 
 /// Starts who reads lines and who answers them.
 fn start_lines<B, R, I, W, C, P>(
@@ -102,7 +108,7 @@ fn start_lines<B, R, I, W, C, P>(
     writer: W,
     clock: C,
     progress: Option<Progress<P>>,
-) -> Result<Telling<B, W, C>, Fault>
+) -> Result<Telling<B, I, W, C>, Fault>
 where
     B: Room + Send + Sync + 'static,
     R: Threads + Wait + time::Clock + Copy + Send + Drop + 'static,
@@ -114,6 +120,7 @@ where
     ensures page { IfOk result (λ r. (r.0.promise.desk.value.page ≡ blank (W.contents writer))
         × (r.0.promise.desk.value.pending.lines.items ≡ [])) }
     ensures owed { IfOk result (λ r. r.0.promise.clock.value ≡ clock) }
+    ensures reads { IfOk result (λ r. r.2.promise.reader.value ≡ reader) }
     ensures refused { IfErr result (λ f. f ≡ Fault.NoMemory _) }
 {
     let Opening {
@@ -130,9 +137,9 @@ where
         hub,
         progress,
     };
-    start_reader(rt, alloc, reader, lines)?;
+    let reading = start_reader(rt, alloc, reader, lines)?;
     let answering = start_desk(rt, answerer, clock)?;
-    Ok((answering, own_lines))
+    Ok((answering, own_lines, reading))
 }
 
 /// Starts who fires what is due.
@@ -141,16 +148,20 @@ pub(crate) fn start_timing<B, R, C>(
     hub: &Hub<B>,
     clock: C,
     group: &WaitGroup,
-) -> Result<(), Fault>
+) -> Result<Timing<B, C>, Fault>
 where
     B: Room + Send + Sync + 'static,
     R: Threads + Wait + time::Clock + Copy + Send + Drop + 'static,
     C: Clock + Copy + Send + Drop + 'static,
-    ensures { IfErr result (λ f. f ≡ Fault.NoMemory _) }
+    ensures owed { IfOk result (λ h. h.promise.clock.value ≡ clock) }
+    ensures refused { IfErr result (λ f. f ≡ Fault.NoMemory _) }
 {
     let group = group.clone()?;
     let reports = reporter(rt, hub, None)?;
-    start_timer(rt, reports, clock, group)
+    match start_timer(rt, reports, clock, group) {
+        Ok(thread) => Ok(thread),
+        Err(fault) => Err(fault),
+    }
 }
 
 /// Starts those who need no line, and counts the tasks that are with workers.
@@ -163,7 +174,7 @@ fn start_others<B, R, A, K, C, P>(
     clock: C,
     strangers: &Strangers<P>,
     group: &WaitGroup,
-) -> Result<(JoinHandle<Tasks<B>>, Tally), Fault>
+) -> Result<(Crew<B, A, C, P>, Tally), Fault>
 where
     B: Room + Send + Sync + 'static,
     R: Threads + Wait + time::Clock + Copy + Send + Drop + 'static,
@@ -171,14 +182,20 @@ where
     K: Skills<A>,
     C: Clock + Copy + Send + Drop + 'static,
     P: Write + Drop + Send + 'static,
-    ensures { IfErr result (λ f. f ≡ Fault.NoMemory _) }
+    ensures workers { IfOk result (λ r. length r.0.workers.items ≡ workers) }
+    ensures refused { IfErr result (λ f. f ≡ Fault.NoMemory _) }
 {
-    start_timing(rt, hub, clock, group)?;
     let tally = Tally::new(alloc)?;
-    let dispatching = start_pool(
+    let timing = start_timing(rt, hub, clock, group)?;
+    let (dispatching, working) = start_pool(
         rt, alloc, hub, workers, skills, clock, &tally, strangers, group,
     )?;
-    Ok((dispatching, tally))
+    let crew = Crew {
+        timing,
+        dispatching,
+        workers: working,
+    };
+    Ok((crew, tally))
 }
 
 /// A terminal, if there is one, that shows what is left.
@@ -203,7 +220,7 @@ fn start_first<B, R, A, K, C, P>(
     clock: C,
     strangers: &Strangers<P>,
     group: &WaitGroup,
-) -> Result<(Opening<B>, JoinHandle<Tasks<B>>, Tally), Fault>
+) -> Result<(Opening<B>, Crew<B, A, C, P>, Tally), Fault>
 where
     B: Room + Send + Sync + 'static,
     R: Threads + Wait + time::Clock + Copy + Send + Drop + 'static,
@@ -212,16 +229,15 @@ where
     C: Clock + Copy + Send + Drop + 'static,
     P: Write + Drop + Send + 'static,
     ensures none { IfOk result (λ r. r.0.pending.lines.items ≡ []) }
+    ensures workers { IfOk result (λ r. length r.1.workers.items ≡ workers) }
     ensures refused { IfErr result (λ f. f ≡ Fault.NoMemory _) }
 {
-    let (dispatching, tally) = start_others(
-        rt, alloc, hub, workers, skills, clock, strangers, group,
-    )?;
+    let (crew, tally) = start_others(rt, alloc, hub, workers, skills, clock, strangers, group)?;
     let opening = open_lines(rt, alloc, hub, MOST_LINES)?;
-    Ok((opening, dispatching, tally))
+    Ok((opening, crew, tally))
 }
 
-/// Starts all threads but the one that serves.
+/// Starts all threads but the one that serves, as many workers as the settings say.
 fn start_all<B, R, I, W, A, K, C, P>(
     rt: &R,
     alloc: Global,
@@ -230,11 +246,11 @@ fn start_all<B, R, I, W, A, K, C, P>(
     writer: W,
     terminal: Option<P>,
     unknown: UnknownActivity<P>,
-    workers: usize,
+    settings: Settings,
     skills: &K,
     clock: C,
     group: &WaitGroup,
-) -> Result<Started<B, W, C>, Fault>
+) -> Result<Started<B, I, A, W, C, P>, Fault>
 where
     B: Room + Send + Sync + 'static,
     R: Threads + Wait + time::Clock + Copy + Send + Drop + 'static,
@@ -244,38 +260,55 @@ where
     K: Skills<A>,
     C: Clock + Copy + Send + Drop + 'static,
     P: Write + Drop + Send + 'static,
-    ensures page { IfOk result (λ r. (r.0.promise.desk.value.page ≡ blank (W.contents writer))
-        × (r.0.promise.desk.value.pending.lines.items ≡ [])) }
-    ensures owed { IfOk result (λ r. r.0.promise.clock.value ≡ clock) }
+    ensures page { IfOk result (λ r. (r.0.0.promise.desk.value.page ≡ blank (W.contents writer))
+        × (r.0.0.promise.desk.value.pending.lines.items ≡ [])) }
+    ensures owed { IfOk result (λ r. r.0.0.promise.clock.value ≡ clock) }
+    ensures reads { IfOk result (λ r. r.0.2.promise.reader.value ≡ reader) }
+    ensures workers { IfOk result (λ r. length r.1.workers.items ≡ settings.workers) }
     ensures refused { IfErr result (λ f. f ≡ Fault.NoMemory _) }
 {
     let strangers = Strangers::new(alloc, unknown, terminal.is_some())?;
-    let (opening, dispatching, tally) = start_first(
+    let workers = settings.workers();
+    let (opening, crew, tally) = start_first(
         rt, alloc, hub, workers, skills, clock, &strangers, group,
     )?;
     let progress = progress_on(alloc, terminal, tally);
-    let (answering, own_lines) = start_lines(rt, alloc, opening, reader, writer, clock, progress)?;
-    Ok((answering, own_lines, dispatching))
+    let telling = start_lines(rt, alloc, opening, reader, writer, clock, progress)?;
+    Ok((telling, crew))
+}
+
+/// Who gave the tasks out, once the threads have ended.
+fn feed_back<B: Room, R: Threads, A: Activity, C: Clock, P: Write>(
+    rt: &R,
+    crew: Crew<B, A, C, P>,
+) -> Feed<B> {
+    let Crew {
+        timing: _timing,
+        dispatching,
+        workers: _workers,
+    } = crew;
+    dispatching.join(rt).into_feed()
 }
 
 /// What came of it, once the threads have ended that answered lines and handed out tasks: what they had of the hub is taken back.
 fn ended_with<B: Room, R: Wait, W: Write + Drop>(
     rt: &R,
     publisher: &mut Publisher<B>,
-    answered: Answered<B, W>,
+    answered: Closing<B, Answered<B, W>>,
     feed: Feed<B>,
     served: Result<(), Fault>,
 ) -> Ended<W>
     ensures served { result.served ≡ served }
-    ensures printed { (W.contents result.writer ≡ answered.page.bytes) × (result.status ≡ answered.page.status) }
-    ensures submitter { IsBefore answered.submitter.was publisher.new }
+    ensures printed { (W.contents result.writer ≡ answered.left.page.bytes) × (result.status ≡ answered.left.page.status) }
+    ensures submitter { IsBefore answered.left.submitter.was publisher.new }
     ensures part { IsSamePart publisher.old publisher.new }
 {
+    let Closing { left, seen: _seen } = answered;
     let Answered {
         page,
         submitter,
         lines: _lines,
-    } = answered;
+    } = left;
     publisher.meet(rt, submitter, feed);
     let (writer, status, _is_mute) = page.into_parts();
     Ended {
@@ -440,25 +473,16 @@ where
 {
     let (mut publisher, hub) = open_hub::<B>(alloc, opened)?;
     match start_all(
-        rt,
-        alloc,
-        &hub,
-        reader,
-        writer,
-        terminal,
-        unknown,
-        settings.workers(),
-        skills,
-        clock,
-        &group,
+        rt, alloc, &hub, reader, writer, terminal, unknown, settings, skills, clock, &group,
     ) {
-        Ok((answering, own_lines, dispatching)) => {
+        Ok((telling, crew)) => {
+            let (answering, own_lines, _reading) = telling;
             let served = serve_new(rt, engine, &mut publisher, &clock, settings.batch());
             // Who answers lines may wait for one, and none is answered any more.
             let _ = own_lines.send(rt, InputMessage::Stopped);
             let answered = answering.join(rt);
             group.wait(rt);
-            let feed = dispatching.join(rt).into_feed();
+            let feed = feed_back(rt, crew);
             Ok(ended_with(rt, &mut publisher, answered, feed, served))
         }
         Err(fault) => {

@@ -11,7 +11,9 @@ use crate::counter::Told;
 use crate::crew::start_ringing;
 use crate::desk::Desk;
 use crate::ended::{Ended, Served};
+use crate::handing::Ringing;
 use crate::input::InputMessage;
+use crate::owing::{Closing, ReadingLines, Timing};
 use crate::running::{Opening, begin, open_hub, open_lines, serve_new, start_timing};
 use crate::teller::{Owed, Teller, start_teller};
 use crate::workers::feed_of;
@@ -38,11 +40,13 @@ use std::time;
 const MOST_LINES: usize = 4_096;
 
 /// What the threads that read and print have beside where the lines come from and where they go.
-struct Supplies<B: Room> {
+struct Supplies<B: Room, C: Clock> {
     opening: Opening<B>,
     feed: Feed<B>,
     /// For who reads.
     its_hub: Arc<Hub<B>, Global>,
+    /// Who fires what is due.
+    timing: Timing<B, C>,
 }
 
 /// Starts who fires what is due, and opens what those need who read and print.
@@ -52,7 +56,7 @@ fn start_first<B, R, C>(
     hub: &Arc<Hub<B>, Global>,
     clock: C,
     group: &WaitGroup,
-) -> Result<Supplies<B>, Fault>
+) -> Result<Supplies<B, C>, Fault>
 where
     B: Room + Send + Sync + 'static,
     R: Threads + Wait + time::Clock + Copy + Send + Drop + 'static,
@@ -60,7 +64,7 @@ where
     ensures none { IfOk result (λ s. (s.opening.pending.lines.items ≡ []) × (s.feed ≡ nothing)) }
     ensures refused { IfErr result (λ f. f ≡ Fault.NoMemory _) }
 {
-    start_timing(rt, hub, clock, group)?;
+    let timing = start_timing(rt, hub, clock, group)?;
     let feed = feed_of(rt, hub)?;
     let its_hub = Arc::try_clone(hub)?;
     let opening = open_lines(rt, alloc, hub, MOST_LINES)?;
@@ -68,24 +72,28 @@ where
         opening,
         feed,
         its_hub,
+        timing,
     })
 }
 
-/// Who answers lines and prints tasks, and the end by which it is told that no line is answered any more.
-type Telling<B, W, C> = (
-    PromisedHandle<Told<B, W>, Owed<B, W, C>>,
+/// Who answers lines and prints tasks, the end by which it is told that no line is answered any more, who reads, and who fires what is
+/// due.
+type Telling<B, I, W, C> = (
+    PromisedHandle<Closing<B, Told<B, W>>, Owed<B, W, C>>,
     Sender<InputMessage>,
+    ReadingLines<I, Ringing<B>>,
+    Timing<B, C>,
 );
 
 /// Starts who reads lines and who answers them and prints tasks.
 fn start_lines<B, R, I, W, C>(
     rt: &R,
     alloc: Global,
-    supplies: Supplies<B>,
+    supplies: Supplies<B, C>,
     reader: I,
     writer: W,
     clock: C,
-) -> Result<Telling<B, W, C>, Fault>
+) -> Result<Telling<B, I, W, C>, Fault>
 where
     B: Room + Send + Sync + 'static,
     R: Threads + Wait + time::Clock + Copy + Send + Drop + 'static,
@@ -96,12 +104,14 @@ where
     ensures page { IfOk result (λ r. (r.0.promise.desk.value.page ≡ blank (W.contents writer))
         × (r.0.promise.desk.value.pending.lines.items ≡ [])) }
     ensures owed { IfOk result (λ r. (r.0.promise.feed.value ≡ nothing) × (r.0.promise.clock.value ≡ clock)) }
+    ensures reads { IfOk result (λ r. r.2.promise.reader.value ≡ reader) }
     ensures refused { IfErr result (λ f. f ≡ Fault.NoMemory _) }
 {
     let Supplies {
         opening,
         feed,
         its_hub,
+        timing,
     } = supplies;
     let Opening {
         lines,
@@ -118,9 +128,9 @@ where
         inputs,
         hub,
     };
-    start_ringing(rt, alloc, reader, lines, its_hub)?;
+    let reading = start_ringing(rt, alloc, reader, lines, its_hub)?;
     let telling = start_teller(rt, teller, clock)?;
-    Ok((telling, own_lines))
+    Ok((telling, own_lines, reading, timing))
 }
 
 /// Starts all threads but the one that serves.
@@ -132,7 +142,7 @@ fn start_all<B, R, I, W, C>(
     writer: W,
     clock: C,
     group: &WaitGroup,
-) -> Result<Telling<B, W, C>, Fault>
+) -> Result<Telling<B, I, W, C>, Fault>
 where
     B: Room + Send + Sync + 'static,
     R: Threads + Wait + time::Clock + Copy + Send + Drop + 'static,
@@ -142,6 +152,7 @@ where
     ensures page { IfOk result (λ r. (r.0.promise.desk.value.page ≡ blank (W.contents writer))
         × (r.0.promise.desk.value.pending.lines.items ≡ [])) }
     ensures owed { IfOk result (λ r. (r.0.promise.feed.value ≡ nothing) × (r.0.promise.clock.value ≡ clock)) }
+    ensures reads { IfOk result (λ r. r.2.promise.reader.value ≡ reader) }
     ensures refused { IfErr result (λ f. f ≡ Fault.NoMemory _) }
 {
     let supplies = start_first(rt, alloc, hub, clock, group)?;
@@ -152,24 +163,25 @@ where
 fn taken_back<B: Room, R: Wait, W: Write + Drop>(
     rt: &R,
     publisher: &mut Publisher<B>,
-    told: Told<B, W>,
+    told: Closing<B, Told<B, W>>,
     served: Result<(), Fault>,
 ) -> Served<W>
     ensures served { result.ended.served ≡ served }
-    ensures printed { (W.contents result.ended.writer ≡ told.page.bytes) × (result.is_mute ≡ told.page.is_mute)
-        × (result.shown ≡ told.page.shown) }
-    ensures lines { result.lines ≡ told.lines }
-    ensures status { result.ended.status ≡ told.page.status }
-    ensures submitter { IsBefore told.submitter.was publisher.new }
-    ensures feed { IsBefore told.feed publisher.new }
+    ensures printed { (W.contents result.ended.writer ≡ told.left.page.bytes) × (result.is_mute ≡ told.left.page.is_mute)
+        × (result.shown ≡ told.left.page.shown) }
+    ensures lines { result.lines ≡ told.left.lines }
+    ensures status { result.ended.status ≡ told.left.page.status }
+    ensures submitter { IsBefore told.left.submitter.was publisher.new }
+    ensures feed { IsBefore told.left.feed publisher.new }
     ensures part { IsSamePart publisher.old publisher.new }
 {
+    let Closing { left, seen: _seen } = told;
     let Told {
         page,
         submitter,
         feed,
         lines,
-    } = told;
+    } = left;
     publisher.meet(rt, submitter, feed);
     let shown = page.shown();
     let (writer, status, is_mute) = page.into_parts();
@@ -248,7 +260,7 @@ where
 {
     let (mut publisher, hub) = open_hub::<B>(alloc, opened)?;
     match start_all(rt, alloc, &hub, reader, writer, clock, &group) {
-        Ok((telling, own_lines)) => {
+        Ok((telling, own_lines, _reading, _timing)) => {
             let served = serve_new(rt, engine, &mut publisher, &clock, settings.batch());
             // Who answers lines may have none, and none is answered any more.
             let _ = own_lines.send(rt, InputMessage::Stopped);

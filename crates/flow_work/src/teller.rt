@@ -5,7 +5,9 @@ ghost use Rattle.flow_work.specs.Questions.{line_served};
 
 use crate::counter::{Counter, Told};
 use crate::desk::Desk;
+use crate::giving::Incoming;
 use crate::input::InputMessage;
+use crate::owing::Closing;
 use crossbeam_channel::Receiver;
 use flow_base::fault::Fault;
 use flow_hub::feed::Feed;
@@ -37,11 +39,11 @@ pub(crate) struct Owed<B: Room, W: Write, C> {
     pub(crate) clock: Snapshot<C>,
 }
 
-impl<B: Room, W: Write, C: Clock> Promise<Told<B, W>> for Owed<B, W, C> {
+impl<B: Room, W: Write, C: Clock> Promise<Closing<B, Told<B, W>>> for Owed<B, W, C> {
     ghost use Rattle.flow_work.specs.Counting.{Owes};
     ghost use Rattle.flow_work.specs.Questions.{line_served};
 
-    ghost kept_by = { λ p r. Owes line_served (C.tells p.clock.value) p.desk.value.page p.desk.value.pending.lines.items p.feed.value r.feed r.submitter r.lines r.page };
+    ghost kept_by = { λ p r. Owes line_served (C.tells p.clock.value) p.desk.value.page p.desk.value.pending.lines.items p.feed.value r.left.feed r.left.submitter r.left.lines r.left.page };
 }
 
 /// Answers lines and prints tasks until the input has ended, and then closes the hub.
@@ -49,8 +51,9 @@ fn run_teller<B: Room, W: Write + Drop, R: Wait + time::Clock, C: Clock>(
     rt: &R,
     teller: Teller<B, W>,
     clock: &C,
-) -> Told<B, W>
-    ensures { Owes line_served (C.tells clock.now) teller.desk.page teller.desk.pending.lines.items teller.feed result.feed result.submitter result.lines result.page }
+) -> Closing<B, Told<B, W>>
+    ensures { Owes line_served (C.tells clock.now) teller.desk.page teller.desk.pending.lines.items teller.feed result.left.feed
+        result.left.submitter result.left.lines result.left.page }
 {
     let Teller {
         desk,
@@ -59,9 +62,11 @@ fn run_teller<B: Room, W: Write + Drop, R: Wait + time::Clock, C: Clock>(
         hub,
     } = teller;
     let mut counter = Counter::new(desk, feed);
-    counter.serve_lines(rt, clock, &inputs);
-    hub.close(rt);
-    counter.into_told()
+    let mut inputs = Incoming::new(inputs);
+    counter.serve_lines(rt, clock, &mut inputs);
+    let seen = hub.close(rt);
+    let left = counter.into_told();
+    Closing { left, seen }
 }
 
 /// Starts the thread that answers lines and prints tasks. E01 where there is none.
@@ -69,7 +74,7 @@ pub(crate) fn start_teller<B, R, W, C>(
     rt: &R,
     teller: Teller<B, W>,
     clock: C,
-) -> Result<PromisedHandle<Told<B, W>, Owed<B, W, C>>, Fault>
+) -> Result<PromisedHandle<Closing<B, Told<B, W>>, Owed<B, W, C>>, Fault>
 where
     B: Room + Send + Sync + 'static,
     R: Threads + Wait + time::Clock + Copy + Send + Drop + 'static,

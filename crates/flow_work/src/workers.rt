@@ -3,6 +3,7 @@ ghost use Rattle.std.specs.Prelude.{◌≡◌, length, IfOk, IfErr};
 ghost use Rattle.flow_hub.specs.Knowing.{nothing};
 
 use crate::crew::{start_dispatcher, start_worker};
+use crate::owing::{Dispatching, Working};
 use crate::reports::Reporter;
 use crate::skills::Skills;
 use crate::tally::Tally;
@@ -22,7 +23,7 @@ use flow_timers::Clock;
 use std::alloc::{AllocError, Global};
 use std::io::Write;
 use std::sync::Wait;
-use std::thread::{JoinHandle, Threads};
+use std::thread::Threads;
 use std::time;
 
 /// How many tasks may wait for a worker.
@@ -61,7 +62,7 @@ pub(crate) fn unseated_fault(unseated: Unseated) -> Fault
 {
     match unseated {
         Unseated::NoMemory(no_memory) => Fault::NoMemory(no_memory),
-        Unseated::InboxFull => Fault::NoMemory(NoMemory::told()),
+        Unseated::InboxFull(_) => Fault::NoMemory(NoMemory::told()),
     }
 }
 
@@ -79,7 +80,7 @@ pub(crate) fn reporter<B: Room, R: Wait>(
     }
 }
 
-/// Starts the thread of one worker.
+/// Starts the thread of one worker, with activities of its own.
 fn start_one<B, R, A, K, C, P>(
     rt: &R,
     alloc: Global,
@@ -90,7 +91,7 @@ fn start_one<B, R, A, K, C, P>(
     tally: &Tally,
     strangers: &Strangers<P>,
     group: &WaitGroup,
-) -> Result<(), Fault>
+) -> Result<Working<B, A, C, P>, Fault>
 where
     B: Room + Send + Sync + 'static,
     R: Threads + Wait + time::Clock + Copy + Send + Drop + 'static,
@@ -98,7 +99,9 @@ where
     K: Skills<A>,
     C: Clock + Copy + Send + Drop + 'static,
     P: Write + Drop + Send + 'static,
-    ensures { IfErr result (λ f. f ≡ Fault.NoMemory _) }
+    ensures owed { IfOk result (λ h. K.has skills.now h.promise.activities.value.items × (h.promise.receiver.value ≡ receiver)
+        × (h.promise.clock.value ≡ clock)) }
+    ensures refused { IfErr result (λ f. f ≡ Fault.NoMemory _) }
 {
     let group = group.clone()?;
     let own = tally.share()?;
@@ -106,12 +109,51 @@ where
     let tally = tally.share()?;
     let activities = skills.of_worker(alloc)?;
     let reports = reporter(rt, hub, Some(tally))?;
-    start_worker(
+    match start_worker(
         rt, alloc, activities, receiver, reports, unknown, clock, group,
-    )
+    ) {
+        Ok(thread) => Ok(thread),
+        Err(fault) => Err(fault),
+    }
 }
 
-/// Starts those who make attempts of the tasks that are posted, and who hands the tasks to them and gives back where they came from.
+/// Starts a thread for each of these ends.
+fn start_workers<B, R, A, K, C, P>(
+    rt: &R,
+    alloc: Global,
+    hub: &Hub<B>,
+    receivers: Vec<TaskReceiver>,
+    skills: &K,
+    clock: C,
+    tally: &Tally,
+    strangers: &Strangers<P>,
+    group: &WaitGroup,
+) -> Result<Vec<Working<B, A, C, P>>, Fault>
+where
+    B: Room + Send + Sync + 'static,
+    R: Threads + Wait + time::Clock + Copy + Send + Drop + 'static,
+    A: Activity + Drop + Send + 'static,
+    K: Skills<A>,
+    C: Clock + Copy + Send + Drop + 'static,
+    P: Write + Drop + Send + 'static,
+    ensures count { IfOk result (λ w. length w.items ≡ length receivers.items) }
+    ensures refused { IfErr result (λ f. f ≡ Fault.NoMemory _) }
+{
+    let mut workers = Vec::with_capacity(alloc, receivers.len())?;
+    'starts: for receiver in receivers {
+        let worker = start_one(
+            rt, alloc, hub, receiver, skills, clock, tally, strangers, group,
+        )?;
+        workers.push_reserved(worker);
+    }
+    Ok(workers)
+}
+
+/// Who hands tasks out, and who makes attempts of them.
+pub(crate) type Pool<B, A, C, P> = (Dispatching<B>, Vec<Working<B, A, C, P>>);
+
+/// Starts those who make attempts of the tasks that are posted, so many, and who hands the tasks to them and gives back where they came
+/// from.
 pub(crate) fn start_pool<B, R, A, K, C, P>(
     rt: &R,
     alloc: Global,
@@ -122,7 +164,7 @@ pub(crate) fn start_pool<B, R, A, K, C, P>(
     tally: &Tally,
     strangers: &Strangers<P>,
     group: &WaitGroup,
-) -> Result<JoinHandle<Tasks<B>>, Fault>
+) -> Result<Pool<B, A, C, P>, Fault>
 where
     B: Room + Send + Sync + 'static,
     R: Threads + Wait + time::Clock + Copy + Send + Drop + 'static,
@@ -130,16 +172,17 @@ where
     K: Skills<A>,
     C: Clock + Copy + Send + Drop + 'static,
     P: Write + Drop + Send + 'static,
-    ensures { IfErr result (λ f. f ≡ Fault.NoMemory _) }
+    ensures workers { IfOk result (λ r. length r.1.items ≡ workers) }
+    ensures refused { IfErr result (λ f. f ≡ Fault.NoMemory _) }
 {
     let (sender, receivers) = open_channel(alloc, workers)?;
-    for receiver in receivers {
-        start_one(
-            rt, alloc, hub, receiver, skills, clock, tally, strangers, group,
-        )?;
-    }
-    let group = group.clone()?;
-    let tally = tally.share()?;
+    let its_group = group.clone()?;
+    let its_tally = tally.share()?;
     let feed = feed_of(rt, hub)?;
-    start_dispatcher(rt, Tasks::new(feed, tally), sender, group)
+    // Nothing is posted yet, so it hands nothing out before the workers are there.
+    let dispatching = start_dispatcher(rt, Tasks::new(feed, its_tally), sender, its_group)?;
+    let working = start_workers(
+        rt, alloc, hub, receivers, skills, clock, tally, strangers, group,
+    )?;
+    Ok((dispatching, working))
 }

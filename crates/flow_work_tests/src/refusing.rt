@@ -56,7 +56,7 @@ pub fn submit<B: Room, R: Wait>(
     rt: &R,
     submitter: &mut Submitter<B>,
     run: u64,
-) -> Result<Ticket, (u8, u64)> {
+) -> Result<Ticket<B>, (u8, u64)> {
     let command = describe(run).ok_or((0, 0))?;
     match submitter.submit(rt, command) {
         Ok(ticket) => Ok(ticket),
@@ -80,12 +80,16 @@ fn run_back(command: &Option<Command>) -> u64 {
 }
 
 /// What a ticket has instead of a receipt: the number of the refusal, and the run of the command that comes back, or 0.
-pub fn told_instead(instead: &NotDone) -> (u8, u64) {
+pub fn told_instead<B: Room>(instead: &NotDone<B>) -> (u8, u64) {
     (instead.code.number(), run_back(&instead.command))
 }
 
 /// Waits with a ticket: `(0, 0)` where there is a receipt.
-pub fn told<B: Room, R: Wait>(rt: &R, submitter: &mut Submitter<B>, ticket: Ticket) -> (u8, u64) {
+pub fn told<B: Room, R: Wait>(
+    rt: &R,
+    submitter: &mut Submitter<B>,
+    ticket: Ticket<B>,
+) -> (u8, u64) {
     match submitter.wait(rt, ticket) {
         Ok(_receipt) => (0, 0),
         Err(instead) => told_instead(&instead),

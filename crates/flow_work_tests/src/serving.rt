@@ -43,11 +43,11 @@ pub fn submitted<B: Room, R: Wait>(
     rt: &R,
     submitter: &mut Submitter<B>,
     command: Command,
-) -> Option<Ticket> {
+) -> Option<Ticket<B>> {
     submitter.submit(rt, command).ok()
 }
 
-pub fn fetched<B: Room, R: Wait>(rt: &R, submitter: &mut Submitter<B>, ticket: Ticket) -> Told {
+pub fn fetched<B: Room, R: Wait>(rt: &R, submitter: &mut Submitter<B>, ticket: Ticket<B>) -> Told {
     match submitter.wait(rt, ticket) {
         Ok(receipt) => told_of(&receipt),
         Err(_instead) => Told { place: 0, named: 0 },

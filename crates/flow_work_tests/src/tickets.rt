@@ -15,7 +15,7 @@ use std::sync::Wait;
 use std::test::*;
 
 /// Submits so many commands, and keeps the first ticket.
-fn fill<B: Room, R: Wait>(rt: &R, submitter: &mut Submitter<B>, count: u64) -> Option<Ticket> {
+fn fill<B: Room, R: Wait>(rt: &R, submitter: &mut Submitter<B>, count: u64) -> Option<Ticket<B>> {
     let first = submit(rt, submitter, 1).ok()?;
     for n in 1..count {
         if denied(rt, submitter, n) != (0, 0) {

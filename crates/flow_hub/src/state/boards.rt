@@ -5,7 +5,7 @@ ghost use Rattle.flow_hub.specs.Halls.{posted_on, skipped, gave};
 ghost use Rattle.flow_hub.specs.Knowing.{IsBefore, IsSamePart, answered_in, nothing};
 ghost use Rattle.flow_queues.specs.Posting.{HasKeys, IsOnce};
 ghost use Rattle.flow_hub.specs.Publishing.{HasPosted, HasSkipped};
-ghost use Rattle.flow_hub.specs.Ending.{HasCome};
+ghost use Rattle.flow_hub.specs.Ending.{HasCome, IsAwaited};
 ghost use Rattle.flow_hub.specs.Feeding.{HasGiven, IsIdle, IsRested, due_in};
 ghost use Rattle.flow_hub.specs.Seating.{seeing, IsGivers, IsPublishers, IsSubmitters};
 
@@ -14,6 +14,7 @@ use crate::fed::Until;
 use crate::known::BoardSummary;
 use crate::rested::Rested;
 use crate::seats::{HubTable, Pass, Room};
+use flow_base::fault::Fault;
 use flow_base::number::Moment;
 use flow_base::task::Task;
 use flow_commit::board::Board;
@@ -59,15 +60,15 @@ impl<B: Room> State<B> {
         (me, Ok(()))
     }
 
-    /// No board this time.
-    pub(crate) fn skip(&mut self, seats: &HubTable<B>, me: Pass<B>) -> Pass<B>
+    /// No board this time, for this fault.
+    pub(crate) fn skip(&mut self, seats: &HubTable<B>, me: Pass<B>, fault: &Fault) -> Pass<B>
         requires seat { IsPublishers me }
-        ensures skipped { self.new ≡ skipped self.old }
+        ensures skipped { self.new ≡ skipped self.old fault.now }
         ensures seat { result ≡ seeing true false 0 self.new.known }
-        ensures seen { HasSkipped me.was result.was }
+        ensures seen { HasSkipped me.was result.was fault.now }
         ensures grows { IsBefore me.was result.was }
     {
-        self.known.skip();
+        self.known.skip(fault);
         seats.tell(&mut self.keeper, me, self.places, self.places, &self.known)
     }
 
@@ -127,6 +128,7 @@ impl<B: Room> State<B> {
     pub(crate) fn has_come(&mut self, until: Until) -> bool
         ensures same { self.new ≡ self.old }
         ensures come { result ≡ true → HasCome until self.old.known }
+        ensures awaited { result ≡ false → IsAwaited until self.old.known }
     {
         match until {
             Until::There => false,
@@ -152,7 +154,8 @@ impl<B: Room> State<B> {
 
     /// Whether no board could be made since what was taken last was answered.
     pub(crate) fn has_no_board(&self) -> bool
-        ensures { result ≡ true → (self.now.known.boarded ≡ true) × (self.now.known.outlook ≡ None) }
+        ensures none { result ≡ true → (self.now.known.boarded ≡ true) × (self.now.known.outlook ≡ None) }
+        ensures some { result ≡ false → self.now.known.boarded ≡ true → self.now.known.outlook ≡ None → ⊥ }
     {
         if !self.known.boarded {
             return false;

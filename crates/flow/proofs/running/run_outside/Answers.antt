@@ -26,6 +26,7 @@ returns-in-Ok-clause-prints g c = inl (record {
   printed = c.replies-replies.ensures;
   ended = c.in-Ok.ended;
   shows = c.in-Ok.ensures.shown;
+  are = c.in-Ok.ensures.status;
   status = status_made c.in-Ok.ended.ended.status c.outcome.result c.outcome.ensures.done;
 })
 

@@ -1,10 +1,10 @@
 use Rattle.std.proofs.Common.{refl}
-use Rattle.flow_model.specs.Book.{changed, with_attempt, with_text}
-use Rattle.flow_maps.proofs.Signalled.{set_quiet, stays_known}
+use Rattle.flow_model.specs.Book.{with_attempt, with_text}
+use Rattle.flow_maps.proofs.Signalled.{set_quiet}
 use Rattle.flow_maps.proofs.maps.change_signals.Goals as goal
 
 pub returns-in-AddText : goal.returns-in-AddText
-returns-in-AddText c b seen h = rw c.in-AddText.is (λ f. h f)
+returns-in-AddText c b seen h = rw c.in-AddText.is h
 
 pub returns-in-AddRun : goal.returns-in-AddRun
 returns-in-AddRun c b seen h = rw c.in-AddRun.is (c.begin.ensures b c.in-AddRun.field-0 c.in-AddRun.field-1 c.in-AddRun.field-2 h)

@@ -7,8 +7,8 @@ pub returns-in-Ok-clause-lived : goal.returns-in-Ok-clause-lived
 returns-in-Ok-clause-lived g c clean = record {
   first = c.in-Ok.engine;
   positions = c.found-found.result.now;
-  hub = c.served.ensures;
-  is = (clean, c.in-Ok.ensures.opens, c.found-found.ensures.found, c.served.ensures.runs);
+  hub = c.served.ensures.serves;
+  is = (clean, c.in-Ok.ensures.opens, c.found-found.ensures.found, c.served.ensures.serves.runs);
 }
 
 pub returns-in-Err-clause-early : goal.returns-in-Err-clause-early

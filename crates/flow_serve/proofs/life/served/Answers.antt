@@ -4,8 +4,8 @@ use Rattle.flow_serve.proofs.life.served.Goals as goal
 pub serve-outcome-requires-clause-together : goal.serve-outcome-requires-clause-together
 serve-outcome-requires-clause-together g c = together_new g.S.Store c.args.engine c.args.publisher.now c.requires.fresh c.requires.none
 
-pub returns : goal.returns
-returns g c =
+pub returns-clause-serves : goal.returns-clause-serves
+returns-clause-serves g c =
     let s = c.serve-outcome.ensures in
     serves_hub g.S.Store c.args.engine c.serve-outcome.new.engine c.args.publisher.now.refused c.serve-outcome.new.publisher c.serve-outcome.result c.requires.fresh
     s.served s.together

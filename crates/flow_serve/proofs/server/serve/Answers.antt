@@ -1,6 +1,7 @@
 use Rattle.std.proofs.Common.{inl, ◌++◌, refl}
 use Rattle.flow_commit.specs.Keeping.{account_of}
 use Rattle.flow_hub.proofs.Growing.{before_trans}
+use Rattle.flow_hub.proofs.Sound.{takes_then}
 use Rattle.flow_serve.proofs.Posted.{later_self, posts_none, posts_still}
 use Rattle.flow_serve.proofs.Served.{boarded_behind, served_behind, unboarded, unserved}
 use Rattle.flow_engine.proofs.Boarding.{follows_self}
@@ -39,19 +40,31 @@ pub returns-in-Err-serve_all-clause-boards : goal.returns-in-Err-serve_all-claus
 returns-in-Err-serve_all-clause-boards g c =
     let t = c.turn_away.ensures.turned in (
       t.0,
-      boarded_behind g.S.Store (g.C.Clock.tells c.args.clock.now) c.args.engine.now c.args.publisher.now.refused
-          c.args.publisher.now.posted c.serve_all.new.engine c.serve_all.new.publisher.refused
-          c.turn_away.new.publisher.refused c.serve_all.new.publisher.posted c.turn_away.new.publisher.posted t.0 t.1
-          c.turn_away.ensures.posted c.in-Err-serve_all.ensures.boards,
+      (
+        c.serve_all.new.publisher.skipped,
+        (
+          boarded_behind g.S.Store (g.C.Clock.tells c.args.clock.now) c.args.engine.now c.args.publisher.now.refused
+              c.args.publisher.now.posted c.args.publisher.now.skipped c.serve_all.new.engine c.serve_all.new.publisher.refused
+              c.turn_away.new.publisher.refused c.serve_all.new.publisher.posted c.turn_away.new.publisher.posted
+              c.serve_all.new.publisher.skipped t.0 t.1 c.turn_away.ensures.posted c.in-Err-serve_all.ensures.boards,
+          c.turn_away.ensures.skipped,
+        ),
+      ),
     )
 
 pub returns-in-Err-clause-boards : goal.returns-in-Err-clause-boards
 returns-in-Err-clause-boards g c =
     let t = c.turn_away-in-Err.ensures.turned in (
       t.0,
-      unboarded g.S.Store (g.C.Clock.tells c.args.clock.now) c.args.engine.now c.args.publisher.now.refused c.args.publisher.now.posted
-          c.turn_away-in-Err.new.publisher.refused c.turn_away-in-Err.new.publisher.posted t.0 t.1
-          c.turn_away-in-Err.ensures.posted,
+      (
+        c.args.publisher.now.skipped,
+        (
+          unboarded g.S.Store (g.C.Clock.tells c.args.clock.now) c.args.engine.now c.args.publisher.now.refused
+              c.args.publisher.now.posted c.args.publisher.now.skipped c.turn_away-in-Err.new.publisher.refused
+              c.turn_away-in-Err.new.publisher.posted t.0 t.1 c.turn_away-in-Err.ensures.posted,
+          c.turn_away-in-Err.ensures.skipped,
+        ),
+      ),
     )
 
 -- what is turned away changes nothing that is kept
@@ -85,3 +98,11 @@ returns-in-Err-serve_all-clause-grows g c =
 
 pub returns-in-Err-clause-grows : goal.returns-in-Err-clause-grows
 returns-in-Err-clause-grows g c = c.turn_away-in-Err.ensures.grows
+
+-- what waits is turned away together
+pub returns-in-Err-serve_all-clause-whole : goal.returns-in-Err-serve_all-clause-whole
+returns-in-Err-serve_all-clause-whole g c =
+    takes_then c.args.most c.args.publisher.now c.serve_all.new.publisher c.turn_away.new.publisher c.serve_all.ensures.whole c.turn_away.ensures.whole
+
+pub returns-in-Err-clause-whole : goal.returns-in-Err-clause-whole
+returns-in-Err-clause-whole g c = c.turn_away-in-Err.ensures.whole

@@ -5,6 +5,7 @@ use Rattle.flow_commit.specs.Keeping.{account_of}
 use Rattle.flow_queues.specs.declared.refused.Refused.{Refused}
 use Rattle.flow_hub.specs.Knowing.{IsOver}
 use Rattle.flow_hub.proofs.Growing.{before_trans}
+use Rattle.flow_hub.proofs.Sound.{takes_none, takes_then}
 use Rattle.flow_serve.specs.Serving.{GivesUp, HasAnswered, IsBatch, StopsAt}
 use Rattle.flow_serve.proofs.Posted.{answered_later, later_self, posts_still, posts_then, still_later}
 use Rattle.flow_serve.proofs.Served.{Served, boarded_done, boarded_first, boarded_last, boarded_more, has_served, served_more}
@@ -59,9 +60,11 @@ returns-in_err-commit_taken-clause-boards g c =
     let hand = c.take.new.into.items in
     let some : (1 ≤ length hand) × (length hand ≤ 64) = search rules in
     let p = err_from_is_err_and c.from_residual.result c.from_residual.ensures.1 in
-    rw (p.1) (boarded_last g.S.Store tells old was first mid new new then now.refused now.refused c.loop.publisher.posted c.of.result
+    rw (p.1) (boarded_last g.S.Store tells old was first c.args.publisher.now.skipped mid new new then now.refused now.refused
+    c.loop.publisher.posted c.loop.publisher.skipped c.of.result
     (subst IsBatch (sym c.of.ensures) some) c.loop.invariant.turned one c.commit_taken.ensures.found
-    now.posted (c.commit_taken.ensures.posted ∙ c.take.ensures.taken.posted))
+    now.posted now.skipped (c.commit_taken.ensures.posted ∙ c.take.ensures.taken.posted)
+    (c.commit_taken.ensures.skipped ∙ c.take.ensures.taken.skipped))
 
 -- the hub is closed, and nothing was taken any more
 pub returns-then-not-take-clause-served : goal.returns-then-not-take-clause-served
@@ -76,9 +79,10 @@ pub returns-then-not-take-clause-boards : goal.returns-then-not-take-clause-boar
 returns-then-not-take-clause-boards g c =
     let first = c.args.publisher.now.posted in
     let tells = g.C.Clock.tells c.args.clock.now in
-    boarded_done g.S.Store tells c.args.engine.now c.args.publisher.now.refused first c.loop.engine c.loop.publisher.refused
-    c.take.new.self.refused c.loop.publisher.posted c.take.new.self.posted
-    c.take.ensures.taken.refused c.take.ensures.taken.posted c.loop.invariant.turned
+    boarded_done g.S.Store tells c.args.engine.now c.args.publisher.now.refused first c.args.publisher.now.skipped c.loop.engine
+    c.loop.publisher.refused c.take.new.self.refused c.loop.publisher.posted c.take.new.self.posted
+    c.loop.publisher.skipped c.take.new.self.skipped
+    c.take.ensures.taken.refused c.take.ensures.taken.posted c.take.ensures.taken.skipped c.loop.invariant.turned
 
 pub returns-in_err-commit_taken-clause-grows : goal.returns-in_err-commit_taken-clause-grows
 returns-in_err-commit_taken-clause-grows g c =
@@ -94,8 +98,9 @@ loop-init g c =
       halted = b.still.halted;
       still = λ h. (b.still.nothing (sym b.still.halted ∙ h), b.refused);
       turned = boarded_first g.S.Store (g.C.Clock.tells c.args.clock.now) c.args.engine.now c.args.publisher.now.refused
-          c.args.publisher.now.posted c.post_board.new.engine c.post_board.new.publisher.refused
-          c.post_board.new.publisher.posted b.still b.refused b.turn;
+          c.args.publisher.now.posted c.args.publisher.now.skipped c.post_board.new.engine c.post_board.new.publisher.refused
+          c.post_board.new.publisher.posted c.post_board.new.publisher.skipped b.still b.refused b.turn;
+      whole = takes_none c.args.most c.args.publisher.now c.post_board.new.publisher b.takes;
       gives = gives_none c.args.publisher.now.refused c.post_board.new.publisher.refused b.refused;
       posts = b.posts;
       found = b.still.found;
@@ -132,10 +137,15 @@ loop-preserved g c =
       halted = b.still.halted ∙ (go.1 ∙ (sym go.0 ∙ i.halted));
       still = λ h. absurd (true≢false (sym h ∙ (b.still.halted ∙ go.1)));
       gives = subst (GivesUp was) (sym b.refused) gives;
-      turned = boarded_more g.S.Store tells old was posted c.loop.engine kept c.post_board-in-loop.new.engine c.loop.publisher.refused
-          told.refused c.post_board-in-loop.new.publisher.refused c.loop.publisher.posted c.of.result
+      whole = takes_then c.args.most c.args.publisher.now mid c.post_board-in-loop.new.publisher
+          (takes_then c.args.most c.args.publisher.now c.loop.publisher mid i.whole c.take.ensures.whole)
+          (takes_none c.args.most mid c.post_board-in-loop.new.publisher (b.takes ∙ c.commit_taken.ensures.takes));
+      turned = boarded_more g.S.Store tells old was posted c.args.publisher.now.skipped c.loop.engine kept c.post_board-in-loop.new.engine
+          c.loop.publisher.refused told.refused c.post_board-in-loop.new.publisher.refused c.loop.publisher.posted
+          c.loop.publisher.skipped c.of.result
           (subst IsBatch (sym c.of.ensures) some) i.turned one c.commit_taken.ensures.found told.posted
-          c.post_board-in-loop.new.publisher.posted (c.commit_taken.ensures.posted ∙ c.take.ensures.taken.posted)
+          c.post_board-in-loop.new.publisher.posted told.skipped c.post_board-in-loop.new.publisher.skipped
+          (c.commit_taken.ensures.posted ∙ c.take.ensures.taken.posted) (c.commit_taken.ensures.skipped ∙ c.take.ensures.taken.skipped)
           (go.1 ∙ (sym go.0 ∙ i.halted)) b.still b.refused b.turn;
       posts = posts_then g.S.Store tells kept c.post_board-in-loop.new.engine posted told.posted c.post_board-in-loop.new.publisher.posted
           (still_later g.S.Store kept c.post_board-in-loop.new.engine b.still) committed b.posts;
@@ -223,3 +233,16 @@ returns-in_err-commit_taken-clause-found g c = c.commit_taken.ensures.found ∙ 
 pub returns-in_err-commit_taken-clause-follows : goal.returns-in_err-commit_taken-clause-follows
 returns-in_err-commit_taken-clause-follows g c =
     follows_then g.S.Store c.args.engine.now c.loop.engine c.commit_taken.new.engine c.loop.invariant.follows c.commit_taken.ensures.follows
+
+-- what is taken is all that waits, or as many as may be
+pub returns-then-not-take-clause-whole : goal.returns-then-not-take-clause-whole
+returns-then-not-take-clause-whole g c =
+    takes_then c.args.most c.args.publisher.now c.loop.publisher c.take.new.self c.loop.invariant.whole c.take.ensures.whole
+
+pub returns-in_err-commit_taken-clause-whole : goal.returns-in_err-commit_taken-clause-whole
+returns-in_err-commit_taken-clause-whole g c =
+    let mid = c.take.new.self in
+    let now = c.commit_taken.new.publisher in
+    takes_then c.args.most c.args.publisher.now mid now
+    (takes_then c.args.most c.args.publisher.now c.loop.publisher mid c.loop.invariant.whole c.take.ensures.whole)
+    (takes_none c.args.most mid now c.commit_taken.ensures.takes)

@@ -2,7 +2,7 @@ use Rattle.std.proofs.Common.{◌≡◌, ◌≤◌, true, []}
 use Rattle.std.specs.Vec.{vec_capacity}
 use Rattle.flow_commit.specs.Keeping.{account_of}
 use Rattle.flow_hub.specs.Knowing.{IsBefore}
-use Rattle.flow_hub.specs.Publishing.{Together}
+use Rattle.flow_hub.specs.Publishing.{TakesAll, Together}
 use Rattle.flow_engine.specs.Answering.{Follows}
 use Rattle.flow_serve.specs.Posting.{Posts}
 use Rattle.flow_serve.specs.Serving.{GivesUp}
@@ -18,7 +18,8 @@ invariant-loop g l =
       still : l.engine.halted ≡ true → (l.engine ≡ l.fn.engine) × (l.publisher.refused ≡ l.fn.publisher.refused);
       gives : GivesUp l.fn.publisher.refused l.publisher.refused;
       turned : Turned g.S.Store (g.C.Clock.tells l.fn.clock) l.fn.engine l.engine l.fn.publisher.refused l.publisher.refused
-          l.fn.publisher.posted l.publisher.posted;
+          l.fn.publisher.posted l.publisher.posted l.fn.publisher.skipped l.publisher.skipped;
+      whole : TakesAll l.fn.most l.fn.publisher l.publisher;
       posts : Posts g.S.Store (g.C.Clock.tells l.fn.clock) l.engine l.fn.publisher.posted l.publisher.posted;
       found : l.engine.found ≡ l.fn.engine.found;
       follows : Follows g.S.Store l.fn.engine l.engine;

@@ -36,7 +36,7 @@ pub returns-in-Err-Refused-clause-cause : goal.returns-in-Err-Refused-clause-cau
 returns-in-Err-Refused-clause-cause g c clean =
     let it = subst (IsRowsFault g.S.Store) c.in-Err-Refused.field-0-is (c.in-Err-Refused.ensures.asked.cause clean) in
     let told = c.opening_fault.ensures ∙ ap opening_fault c.in-Err-Refused.error-is in
-    subst (HasCause g.S.Store) (sym told) (caused g.S.Store c.in-Err-Refused.error (it.0, it.1, _, inr (inr (inl (it.2, refl, it.3)))))
+    subst (HasCause g.S.Store) (sym told) (caused g.S.Store c.in-Err-Refused.error (it.0, it.1, _, inr (inr (inl (it.2, it.3, it.4, refl, it.5)))))
 
 pub returns-in-Err-Refused-clause-why : goal.returns-in-Err-Refused-clause-why
 returns-in-Err-Refused-clause-why g c clean was rest =

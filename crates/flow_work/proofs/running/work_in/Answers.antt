@@ -18,7 +18,7 @@ pub returns-in-Ok-clause-printed : goal.returns-in-Ok-clause-printed
 returns-in-Ok-clause-printed g c =
     let tells = g.C.Clock.tells c.args.clock in
     let first = g.W.Write.contents c.args.writer in
-    let answered = c.join-answered.result in
+    let answered = c.join-answered.result.left in
     let after = c.ended_with in
     let counted = c.join-answered.ensures.counted first c.in-Ok.ensures.page.0 c.in-Ok.ensures.page.1 refl in
     let now : Counted line_command tells first nothing answered.submitter answered.lines answered.page = subst (λ (k : g.row.C.Denot). Counted line_command (g.C.Clock.tells k) first nothing answered.submitter answered.lines answered.page) c.in-Ok.ensures.owed counted in

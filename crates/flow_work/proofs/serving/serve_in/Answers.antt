@@ -11,7 +11,7 @@ pub returns-in-Ok-clause-shown : goal.returns-in-Ok-clause-shown
 returns-in-Ok-clause-shown g c =
     let tells = g.C.Clock.tells c.args.clock in
     let first = g.W.Write.contents c.args.writer in
-    let told = c.join-told.result in
+    let told = c.join-told.result.left in
     let after = c.taken_back in
     let printed = after.result in
     let counted = c.join-told.ensures.counted first c.in-Ok.ensures.page.0 c.in-Ok.ensures.page.1 c.in-Ok.ensures.owed.0 in
@@ -28,7 +28,7 @@ returns-in-Ok-clause-ran g c =
 pub returns-in-Ok-clause-status : goal.returns-in-Ok-clause-status
 returns-in-Ok-clause-status g c =
     let first = g.W.Write.contents c.args.writer in
-    let told = c.join-told.result in
+    let told = c.join-told.result.left in
     let after = c.taken_back in
     let counted = c.join-told.ensures.counted first c.in-Ok.ensures.page.0 c.in-Ok.ensures.page.1 c.in-Ok.ensures.owed.0 in
     let printed = after.ensures.printed in

@@ -16,7 +16,7 @@ returns g c =
           let page' : made.desk.page ≡ blank first = cc (c.new-counter.ensures.0, page) in
           let none' : made.desk.pending.lines.items ≡ [] = cc (c.new-counter.ensures.0, none) in
           let fed' : made.feed ≡ nothing = cc (c.new-counter.ensures.1, fed) in
-          let told = c.into_told in
+          let told = c.into_told-left in
           counted_as line_served tells first now.feed told.result.feed now.desk.submitter told.result.submitter now.lines told.result.lines now.desk.page told.result.page told.ensures.2 told.ensures.1 told.ensures.3 told.ensures.0
-          (c.serve_lines.ensures first (counts_as line_served tells first made.feed made.desk.submitter made.desk.pending.lines.items made.lines made.desk.page fed' none' c.new-counter.ensures.2 page'));
+          (c.serve_lines.ensures.counted first (counts_as line_served tells first made.feed made.desk.submitter made.desk.pending.lines.items made.lines made.desk.page fed' none' c.new-counter.ensures.2 page'));
     }

@@ -1,7 +1,9 @@
-use Rattle.std.proofs.Common.{ap}
+use Rattle.std.proofs.Common.{◌≡◌, ap}
 use Rattle.flow_lines.specs.Commands.{line_command}
 use Rattle.flow_hub.specs.Knowing.{nothing}
 use Rattle.flow_work.proofs.Counting.{counts_failed}
+use Rattle.flow_work.proofs.Failing.{over_failed}
+use Rattle.flow_work.specs.Printing.{Printed}
 use Rattle.flow_work.proofs.clerk.Clerk.fail.Goals as goal
 
 pub returns-clause-counted : goal.returns-clause-counted
@@ -18,6 +20,9 @@ returns-clause-ends g c =
     let old = c.args.self.now in
     let tells = g.C.Clock.tells c.args.clock.now in
     let new = c.fail.new.self in
-    λ first k. c.end.ensures.ends first
+    let now = c.end.new.self in
+    let failed : new.page.status ≡ 3 = ap (λ (p : Printed). p.status) c.fail.ensures.page in
+    λ first k. over_failed now.desk.pending.lines.items now.desk.page.status (c.end.ensures.failed failed)
+    (c.end.ensures.ends first
     (counts_failed line_command tells first nothing old.desk.submitter new.submitter old.desk.pending.lines.items new.pending.lines.items old.lines old.desk.page new.page c.fail.ensures.submitter (ap (λ q. q.lines.items) c.fail.ensures.pending)
-    c.fail.ensures.page k)
+    c.fail.ensures.page k))

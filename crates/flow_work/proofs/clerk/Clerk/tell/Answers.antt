@@ -1,7 +1,7 @@
 use Rattle.flow_lines.specs.Commands.{line_command}
 use Rattle.flow_hub.specs.Knowing.{nothing}
 use Rattle.flow_work.proofs.Counting.{goes_told, quits}
-use Rattle.flow_work.proofs.Silence.{silent_first}
+use Rattle.flow_work.proofs.Silence.{fewer, silent_first}
 use Rattle.flow_work.proofs.clerk.Clerk.tell.Goals as goal
 
 pub returns-clause-counted : goal.returns-clause-counted
@@ -21,3 +21,10 @@ returns-clause-quits g c =
     let oldest = told.ensures.oldest in
     λ first k off. quits line_command tells first nothing old.desk.submitter new.submitter old.desk.pending.lines.items old.lines old.desk.page told.ensures.same told.ensures.grows
     (silent_first new.submitter old.desk.pending.lines.items new.pending.lines.items oldest.0 told.result oldest.1 off) k
+
+pub returns-clause-fewer : goal.returns-clause-fewer
+returns-clause-fewer g c =
+    let told = c.tell_oldest in
+    let new = told.new.self in
+    let oldest = told.ensures.oldest in
+    fewer new.submitter c.args.self.now.desk.pending.lines.items new.pending.lines.items oldest.0 told.result oldest.1

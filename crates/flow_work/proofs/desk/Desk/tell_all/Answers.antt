@@ -5,7 +5,7 @@ use Rattle.flow_work.proofs.Telling.{told_as, told_ends, told_then}
 use Rattle.flow_work.proofs.desk.Desk.tell_all.Goals as goal
 
 pub returns-then-not-has_pending : goal.returns-then-not-has_pending
-returns-then-not-has_pending g c = record { ends = inl (c.has_pending.ensures c.if-not-has_pending.true); told = told_ends c.lines.self.submitter false c.lines.invariant.2; grows = c.lines.invariant.3; same = c.lines.invariant.4 }
+returns-then-not-has_pending g c = record { ends = inl (c.has_pending.ensures.none c.if-not-has_pending.true); told = told_ends c.lines.self.submitter false c.lines.invariant.2; grows = c.lines.invariant.3; same = c.lines.invariant.4 }
 
 pub returns-then-not-tell_oldest : goal.returns-then-not-tell_oldest
 returns-then-not-tell_oldest g c =

@@ -1,0 +1,28 @@
+use Rattle.std.proofs.Common.{inl, inr, ap, sym, ◌∙◌}
+use Rattle.flow_work.specs.Inputs.{lines_in}
+use Rattle.flow_work.specs.Questions.{line_served}
+use Rattle.flow_work.proofs.Counting.{lines_given}
+use Rattle.flow_work.proofs.Listening.{ends_served}
+use Rattle.flow_work.proofs.counter.Counter.step.Goals as goal
+
+pub returns-in-Some-clause-ends : goal.returns-in-Some-clause-ends
+returns-in-Some-clause-ends g c =
+    let tells = g.C.Clock.tells c.args.clock.now in
+    let now = c.deal.new.self in
+    λ first k off. ends_served line_served tells now.desk.submitter now.desk.pending.lines.items now.feed now.desk.page.status (g.G.Giving.given c.ready_input.new.inputs) (g.G.Giving.given c.args.inputs.now) c.in-Some.input c.in-Some.ensures.given (c.deal.ensures.shut first k off)
+
+pub returns-in-Some-clause-lines : goal.returns-in-Some-clause-lines
+returns-in-Some-clause-lines g c =
+    λ is. lines_given (g.G.Giving.given c.ready_input.new.inputs) (g.G.Giving.given c.args.inputs.now) c.in-Some.input c.args.self.now.lines c.deal.new.self.lines c.in-Some.ensures.given c.deal.ensures.lines is
+
+pub returns-in-None-clause-ends : goal.returns-in-None-clause-ends
+returns-in-None-clause-ends g c = λ first k off. inr (c.tell.ensures.shut first k off)
+
+pub returns-in-None-clause-lines : goal.returns-in-None-clause-lines
+returns-in-None-clause-lines g c = λ is. c.tell.ensures.lines ∙ (is ∙ ap lines_in (sym c.in-None.ensures.given))
+
+pub returns-in-Some-clause-steps : goal.returns-in-Some-clause-steps
+returns-in-Some-clause-steps g c = inl (c.in-Some.input, c.in-Some.ensures.given)
+
+pub returns-in-None-clause-steps : goal.returns-in-None-clause-steps
+returns-in-None-clause-steps g c = inr (c.in-None.ensures.given, c.tell.ensures.does)

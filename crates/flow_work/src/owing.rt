@@ -1,0 +1,128 @@
+//! What the threads owe that fire timers, hand out tasks, make attempts and read: what each has done, once it has ended. Who has such a
+//! thread's handle has started it, since nothing else makes one.
+ghost use Rattle.std.specs.Prelude.{◌≡◌};
+
+use crate::input::Taking;
+use crate::reports::Reporter;
+use crate::tasks::Tasks;
+use crate::unknown::Stranger;
+use flow_hub::hub::SeenClosed;
+use flow_hub::seats::Room;
+use flow_pool::activity::Activity;
+use flow_pool::ends::TaskReceiver;
+use flow_timers::Clock;
+use std::io::{BufRead, Write};
+use std::snapshot::Snapshot;
+use std::thread::{Promise, PromisedHandle};
+
+/// What is left of a thread that closes the hub at its end, and what it saw then. Nothing but closing the hub gives that.
+#[derive(Drop)]
+pub(crate) struct Closing<B: Room, T> {
+    pub(crate) left: T,
+    pub(crate) seen: SeenClosed<B>,
+}
+
+/// What a worker had at its end, for contracts alone.
+#[derive(Drop)]
+pub(crate) struct Worked<B: Room> {
+    pub(crate) receiver: Snapshot<TaskReceiver>,
+    pub(crate) reports: Snapshot<Reporter<B>>,
+}
+
+/// What these are now.
+pub(crate) fn worked_by<B: Room>(receiver: &TaskReceiver, reports: &Reporter<B>) -> Worked<B>
+    ensures receiver { result.receiver.value ≡ receiver.now }
+    ensures reports { result.reports.value ≡ reports.now }
+{
+    Worked {
+        receiver: Snapshot::of(receiver),
+        reports: Snapshot::of(reports),
+    }
+}
+
+/// What a worker began with. At its end it has made an attempt of each task that it took, and has reported it.
+#[derive(Drop)]
+pub(crate) struct OwedWork<B: Room, A, C, P: Write> {
+    pub(crate) activities: Snapshot<Vec<A>>,
+    pub(crate) receiver: Snapshot<TaskReceiver>,
+    pub(crate) reports: Snapshot<Reporter<B>>,
+    pub(crate) unknown: Snapshot<Stranger<P>>,
+    pub(crate) clock: Snapshot<C>,
+}
+
+impl<B: Room, A: Activity, C: Clock, P: Write> Promise<Worked<B>> for OwedWork<B, A, C, P> {
+    ghost use Rattle.std.specs.Prelude.{is_some};
+    ghost use Rattle.flow_pool.specs.Ends.{known_by, taken_by};
+    ghost use Rattle.flow_pool.specs.Reports.{MayCome, is_left};
+    ghost use Rattle.flow_work.specs.Working.{HasWorked};
+
+    ghost kept_by = { λ p r. HasWorked (C.tells p.clock.value) (MayCome A.named A.gives p.activities.value.items) (is_left (is_some p.unknown.value.names) A.named p.activities.value.items) (taken_by p.receiver.value) (known_by r.receiver.value) p.reports.value.told r.reports.value.told };
+}
+
+/// A thread that makes attempts.
+pub(crate) type Working<B, A, C, P> = PromisedHandle<Worked<B>, OwedWork<B, A, C, P>>;
+
+/// What the thread began with that hands out tasks. At its end it has handed out what it was given.
+#[derive(Drop)]
+pub(crate) struct OwedTasks<B: Room> {
+    pub(crate) tasks: Snapshot<Tasks<B>>,
+}
+
+impl<B: Room> Promise<Tasks<B>> for OwedTasks<B> {
+    ghost use Rattle.flow_work.specs.Working.{HasHanded};
+
+    ghost kept_by = { λ p r. HasHanded p.tasks.value.feed r.feed };
+}
+
+/// A thread that hands out tasks.
+pub(crate) type Dispatching<B> = PromisedHandle<Tasks<B>, OwedTasks<B>>;
+
+/// What the thread began with that fires what is due. At its end it has fired ticks, and no more are to be.
+#[derive(Drop)]
+pub(crate) struct OwedTicks<B: Room, C> {
+    pub(crate) reports: Snapshot<Reporter<B>>,
+    pub(crate) clock: Snapshot<C>,
+}
+
+impl<B: Room, C: Clock> Promise<Snapshot<Reporter<B>>> for OwedTicks<B, C> {
+    ghost use Rattle.flow_work.specs.Working.{HasFired};
+
+    ghost kept_by = { λ p r. HasFired (C.tells p.clock.value) r.value.submitter.was p.reports.value.told r.value.told };
+}
+
+/// A thread that fires what is due.
+pub(crate) type Timing<B, C> = PromisedHandle<Snapshot<Reporter<B>>, OwedTicks<B, C>>;
+
+/// What the thread had at its end that reads, for contracts alone.
+#[derive(Drop)]
+pub(crate) struct LastRead<I, T> {
+    pub(crate) reader: Snapshot<I>,
+    pub(crate) taking: Snapshot<T>,
+}
+
+/// What these are now.
+pub(crate) fn last_read<I, T>(reader: &I, taking: &T) -> LastRead<I, T>
+    ensures reader { result.reader.value ≡ reader.now }
+    ensures taking { result.taking.value ≡ taking.now }
+{
+    LastRead {
+        reader: Snapshot::of(reader),
+        taking: Snapshot::of(taking),
+    }
+}
+
+/// What the thread began with that reads. At its end it has handed on what it read.
+#[derive(Drop)]
+pub(crate) struct OwedLines<I, T> {
+    pub(crate) reader: Snapshot<I>,
+    pub(crate) taking: Snapshot<T>,
+}
+
+impl<I: BufRead, T: Taking> Promise<LastRead<I, T>> for OwedLines<I, T> {
+    ghost use Rattle.flow_work.specs.Working.{HasHandedOn};
+
+    ghost kept_by = { λ p r. HasHandedOn (T.gone r.taking.value) (I.remaining p.reader.value) (I.remaining r.reader.value) (T.taken p.taking.value) (T.taken r.taking.value) };
+}
+
+/// A thread that reads.
+pub(crate) type ReadingLines<I, T> = PromisedHandle<LastRead<I, T>, OwedLines<I, T>>;
