@@ -15,11 +15,14 @@ use std::io::{BufRead, Write};
 use std::snapshot::Snapshot;
 use std::thread::{Promise, PromisedHandle};
 
-/// What is left of a thread that closes the hub at its end, and what it saw then. Nothing but closing the hub gives that.
+/// What is left of a thread that answers lines and closes the hub at its end, and what it saw then. Nothing but closing the hub gives
+/// that.
 #[derive(Drop)]
-pub(crate) struct Closing<B: Room, T> {
+pub(crate) struct Closing<B: Room, T, G> {
     pub(crate) left: T,
     pub(crate) seen: SeenClosed<B>,
+    /// What gave it the lines, as it was at its end, for contracts alone.
+    pub(crate) inputs: Snapshot<G>,
 }
 
 /// What a worker had at its end, for contracts alone.

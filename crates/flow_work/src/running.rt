@@ -11,6 +11,7 @@ use crate::clerk::Answered;
 use crate::crew::{Answerer, Answering, start_desk, start_reader, start_timer};
 use crate::desk::Desk;
 use crate::ended::Ended;
+use crate::giving::Incoming;
 use crate::handing::Handing;
 use crate::input::InputMessage;
 use crate::owing::{Closing, Dispatching, ReadingLines, Timing, Working};
@@ -83,7 +84,7 @@ pub(crate) fn open_lines<B: Room, R: Wait>(
 
 /// Who answers lines, the end by which it is told that no line is answered any more, and who reads.
 type Telling<B, I, W, C> = (
-    Answering<B, W, C>,
+    Answering<B, W, C, Incoming>,
     Sender<InputMessage>,
     ReadingLines<I, Handing>,
 );
@@ -121,6 +122,7 @@ where
         × (r.0.promise.desk.value.pending.lines.items ≡ [])) }
     ensures owed { IfOk result (λ r. r.0.promise.clock.value ≡ clock) }
     ensures reads { IfOk result (λ r. r.2.promise.reader.value ≡ reader) }
+    ensures given { IfOk result (λ r. r.0.promise.inputs.value.given ≡ []) }
     ensures refused { IfErr result (λ f. f ≡ Fault.NoMemory _) }
 {
     let Opening {
@@ -133,7 +135,7 @@ where
     } = opening;
     let answerer = Answerer {
         desk: Desk::new(alloc, submitter, pending, writer),
-        inputs,
+        inputs: Incoming::new(inputs),
         hub,
         progress,
     };
@@ -294,7 +296,7 @@ fn feed_back<B: Room, R: Threads, A: Activity, C: Clock, P: Write>(
 fn ended_with<B: Room, R: Wait, W: Write + Drop>(
     rt: &R,
     publisher: &mut Publisher<B>,
-    answered: Closing<B, Answered<B, W>>,
+    answered: Closing<B, Answered<B, W>, Incoming>,
     feed: Feed<B>,
     served: Result<(), Fault>,
 ) -> Ended<W>
@@ -303,7 +305,11 @@ fn ended_with<B: Room, R: Wait, W: Write + Drop>(
     ensures submitter { IsBefore answered.left.submitter.was publisher.new }
     ensures part { IsSamePart publisher.old publisher.new }
 {
-    let Closing { left, seen: _seen } = answered;
+    let Closing {
+        left,
+        seen: _seen,
+        inputs: _inputs,
+    } = answered;
     let Answered {
         page,
         submitter,
