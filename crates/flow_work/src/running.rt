@@ -1,6 +1,7 @@
 //! A running engine: the threads around the one that serves.
-ghost use Rattle.std.specs.Prelude.{◌≡◌, ◌≤◌, [], length, IfOk, IfErr, OnOk};
+ghost use Rattle.std.specs.Prelude.{◌≡◌, ◌≤◌, false, [], length, IfOk, IfErr, OnOk};
 ghost use Rattle.flow_hub.specs.Knowing.{IsBefore, IsSamePart, nothing};
+ghost use Rattle.flow_hub.specs.Publishing.{IsDone};
 ghost use Rattle.flow_hub.specs.Seating.{IsRoomOf};
 ghost use Rattle.flow_engine.specs.Answering.{Follows};
 ghost use Rattle.flow_work.specs.Endings.{EndsServing, HasRun, HasServedAll};
@@ -437,6 +438,9 @@ pub(crate) fn serve_new<S: Alter, B: Room, R: Wait + time::Clock, C: Clock>(
     ensures served { OnOk result (HasServedAll S.Store engine.old engine.new) }
     ensures ends { IfErr result (EndsServing S.Store engine.old engine.new) }
     ensures hub { ServedBy S.Store (C.tells clock.now) engine.old engine.new publisher.new }
+    // All that was submitted is answered and the hub is closed, on Ok by somebody who has the hub.
+    ensures done { IsDone publisher.new }
+    ensures closed { OnOk result (publisher.new.ended ≡ false) }
     ensures goes_on { OnOk result (engine.new.halted ≡ engine.old.halted) }
     ensures found { engine.new.found ≡ engine.old.found }
     ensures follows { Follows S.Store engine.old engine.new }
