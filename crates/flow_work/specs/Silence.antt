@@ -1,5 +1,5 @@
 -- Why nothing is answered any more.
-use Rattle.std.specs.Prelude.{◌≡◌, ◌⊎◌, ◌<◌, ℕ, List, [], ◌∷◌, ◌++◌, true, length, Option, None}
+use Rattle.std.specs.Prelude.{◌≡◌, ◌⊎◌, ◌<◌, ◌≤◌, ℕ, List, [], ◌∷◌, ◌++◌, true, length, Option, None}
 use Rattle.flow_base.specs.declared.command.Command.{Command}
 use Rattle.flow_hub.specs.declared.fed.Fed.{Fed}
 use Rattle.flow_hub.specs.declared.known.HubFacts.{HubFacts}
@@ -72,6 +72,10 @@ IsFewer (p ∷ ps) now = now ≡ ps
 -- A line waited, and the oldest has its answer.
 abbrev pub AnswersOldest : (was now : List Pending) → Type 0
 AnswersOldest was now = (0 < length was) × IsFewer was now
+
+-- So many lines wait that no more is taken in, or nothing is there to be read.
+abbrev pub IsHeldUp : List Pending → Type 0 → Type 0
+IsHeldUp ps lacks = (64 ≤ length ps) ⊎ lacks
 
 -- What was given next is dealt with; or nothing was given, and that was done.
 abbrev pub IsStep : (was now : List InputMessage) → Type 0 → Type 0

@@ -6,7 +6,7 @@ ghost use Rattle.flow_work.specs.Counting.{Counted, Counts, Goes, Owes};
 ghost use Rattle.flow_work.specs.Inputs.{Takes, lines_in};
 ghost use Rattle.flow_work.specs.Printing.{blank};
 ghost use Rattle.flow_work.specs.Resting.{HasRested};
-ghost use Rattle.flow_work.specs.Silence.{AnswersOldest, EndsTaking, HasEnded, IsFewer, IsOver, IsStep, Quits};
+ghost use Rattle.flow_work.specs.Silence.{AnswersOldest, EndsTaking, HasEnded, IsFewer, IsHeldUp, IsOver, IsStep, Quits};
 
 use crate::desk::Desk;
 use crate::giving::Giving;
@@ -194,7 +194,8 @@ impl<B: Room, W: Write + Drop> Clerk<B, W> {
             self.new.desk.page.status (G.given inputs.new) }
         // No round passes in which nothing is done.
         ensures steps { IsStep (G.given inputs.old) (G.given inputs.new)
-            (AnswersOldest self.old.desk.pending.lines.items self.new.desk.pending.lines.items) }
+            (AnswersOldest self.old.desk.pending.lines.items self.new.desk.pending.lines.items
+            × IsHeldUp self.old.desk.pending.lines.items (G.lacks inputs.new)) }
         ensures lines { self.old.lines ≡ lines_in (G.given inputs.old) → self.new.lines ≡ lines_in (G.given inputs.new) }
     {
         match self.desk.next_input(rt, inputs) {
