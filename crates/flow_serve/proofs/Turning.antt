@@ -144,12 +144,12 @@ module _ {S : Type 0} (g : Ghosts S) where
     first_is = was.among;
     last_is = subst (λ h. IsOfBoard h last) one.halted why.among;
     counted = λ fit. (
-      let then = two.follows.1 fit in
-      let since = one.stored.3 then.0 then.1 in
-      let shuts = shut_on (state_of g old.stored).is_open (state_of g mid.stored).is_open (up_before g old.stored mid.stored one.stored then) in
-      let shuts' = shut_on (state_of g mid.stored).is_open (state_of g new.stored).is_open (up_before g mid.stored new.stored two.stored fit) in
-      let so_far = skipped_more old old mid [] first (since_self (state_of g old.stored)) since.0 shuts (none_skipped old) old.halted was.among (was.cause then) in
-      skipped_more old mid new (first ∷ []) last since (two.stored.3 fit.0 fit.1).0 shuts' so_far mid.halted why.among (why.cause fit));
+        let then = two.follows.1 fit in
+        let since = one.stored.3 then.0 then.1 in
+        let shuts = shut_on (state_of g old.stored).is_open (state_of g mid.stored).is_open (up_before g old.stored mid.stored one.stored then) in
+        let shuts' = shut_on (state_of g mid.stored).is_open (state_of g new.stored).is_open (up_before g mid.stored new.stored two.stored fit) in
+        let so_far = skipped_more old old mid [] first (since_self (state_of g old.stored)) since.0 shuts (none_skipped old) old.halted was.among (was.cause then) in
+        skipped_more old mid new (first ∷ []) last since (two.stored.3 fit.0 fit.1).0 shuts' so_far mid.halted why.among (why.cause fit));
   }
 
   pub turn_still : (tells : ℕ → Type 0) (old new : Keeping S) (was then posted : List Task) (left since missed : List Fault) → posted ≡ then
