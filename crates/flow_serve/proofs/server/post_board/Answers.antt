@@ -15,24 +15,24 @@ pub returns-in_default-clause-turn : goal.returns-in_default-clause-turn
 returns-in_default-clause-turn g c = inl (c.in_default.ensures.tried, c.try_board.ensures.skipped)
 
 -- or the second
-pub returns-in_default-2-clause-turn : goal.returns-in_default-2-clause-turn
-returns-in_default-2-clause-turn g c =
+pub returns-in_default-try_board-clause-turn : goal.returns-in_default-try_board-clause-turn
+returns-in_default-try_board-clause-turn g c =
     let first = c.in-Err.ensures.tried in
-    let one = c.in_default-2.ensures.tried in
+    let one = c.in_default-try_board.ensures.tried in
     inl (
       subst (λ (ts : List Task). PostsOne g.S.Store (g.C.Clock.tells c.args.clock.now) c.try_board-2.new.engine ts c.try_board-2.new.publisher.posted) first.0 one,
       c.try_board-2.ensures.skipped ∙ c.try_board.ensures.skipped,
     )
 
-pub returns-in_default-2-clause-grows : goal.returns-in_default-2-clause-grows
-returns-in_default-2-clause-grows g c = before_trans c.args.publisher.now c.try_board.new.publisher c.try_board-2.new.publisher c.try_board.ensures.grows c.try_board-2.ensures.grows
+pub returns-in_default-try_board-clause-grows : goal.returns-in_default-try_board-clause-grows
+returns-in_default-try_board-clause-grows g c = before_trans c.args.publisher.now c.try_board.new.publisher c.try_board-2.new.publisher c.try_board.ensures.grows c.try_board-2.ensures.grows
 
-pub returns-in_default-2-clause-still : goal.returns-in_default-2-clause-still
-returns-in_default-2-clause-still g c =
+pub returns-in_default-try_board-clause-still : goal.returns-in_default-try_board-clause-still
+returns-in_default-try_board-clause-still g c =
     still_then g.S.Store c.args.engine.now c.try_board.new.engine c.try_board-2.new.engine c.try_board.ensures.still c.try_board-2.ensures.still
 
-pub returns-in_default-2-clause-posts : goal.returns-in_default-2-clause-posts
-returns-in_default-2-clause-posts g c =
+pub returns-in_default-try_board-clause-posts : goal.returns-in_default-try_board-clause-posts
+returns-in_default-try_board-clause-posts g c =
     let mid = c.try_board.new.engine in
     let new = c.try_board-2.new.engine in
     posts_then g.S.Store (g.C.Clock.tells c.args.clock.now) mid new c.args.publisher.now.posted c.try_board.new.publisher.posted c.try_board-2.new.publisher.posted
@@ -42,7 +42,7 @@ returns-in_default-2-clause-posts g c =
 pub returns-clause-turn : goal.returns-clause-turn
 returns-clause-turn g c =
     let first = c.in-Err.ensures.tried in
-    let last = c.in-Err-2.ensures.tried in
+    let last = c.in-Err-try_board.ensures.tried in
     let one = c.skip.ensures.skipped in
     let two = c.skip-2.ensures.skipped in
     let missed = c.try_board-2.ensures.skipped ∙ c.try_board.ensures.skipped in
@@ -50,10 +50,10 @@ returns-clause-turn g c =
       two.posted ∙ (one.posted ∙ (last.0 ∙ first.0)),
       (
         c.in-Err.first,
-        c.in-Err-2.last,
-        refused_twice g.S.Store c.args.engine.now c.try_board.new.engine c.try_board-2.new.engine c.in-Err.first c.in-Err-2.last
+        c.in-Err-try_board.last,
+        refused_twice g.S.Store c.args.engine.now c.try_board.new.engine c.try_board-2.new.engine c.in-Err.first c.in-Err-try_board.last
             c.try_board.ensures.still c.try_board-2.ensures.still first.1 last.1,
-        two.skipped ∙ ap (λ (fs : List Fault). c.in-Err-2.last ∷ fs) (one.skipped ∙ ap (λ (fs : List Fault). c.in-Err.first ∷ fs) missed),
+        two.skipped ∙ ap (λ (fs : List Fault). c.in-Err-try_board.last ∷ fs) (one.skipped ∙ ap (λ (fs : List Fault). c.in-Err.first ∷ fs) missed),
       ),
     )
 
