@@ -40,9 +40,9 @@ silent_behind k m {was} {now} h (inl closed) = inl closed
 silent_behind k m {was} {now} h (inr u) = inr (unanswered_behind m h.told now was (subst (λ s. h.told ++ (s ++ now) ≡ was) (h.all refl) h.rest) u)
 
 -- nothing was there to be read
-pub held_by_none : {L : Type 0} (ps : List Pending) (r : Option InputMessage) → IfNone r L → IfNone r (IsHeldUp ps L)
-held_by_none ps None h = inr h
-held_by_none ps (Some x) h = tt
+pub held_by_none : (L : Type 0) (ps : List Pending) (r : Option InputMessage) → IfNone r L → IfNone r (IsHeldUp ps L)
+held_by_none L ps None h = inr h
+held_by_none L ps (Some x) h = tt
 
-pub held_by_room : {L : Type 0} (ps : List Pending) → 64 ≤ length ps → IsHeldUp ps L
-held_by_room ps full = inl full
+pub held_by_room : (L : Type 0) (ps : List Pending) → 64 ≤ length ps → IsHeldUp ps L
+held_by_room L ps full = inl full

@@ -12,7 +12,7 @@ use crate::handing::{Handing, Ringing};
 use crate::input::{InputMessage, Taking, read_lines};
 use crate::owing::{
     Closing, Dispatching, LastRead, OwedLines, OwedTasks, OwedTicks, OwedWork, ReadingLines,
-    Timing, Worked, Working, last_read, worked_by,
+    Timing, Worked, Working, last_read,
 };
 use crate::progress::Progress;
 use crate::reports::Reporter;
@@ -48,13 +48,12 @@ fn run_worker<B: Room, R: Wait + time::Clock, A: Activity + Drop, C: Clock, P: W
     group: WaitGroup,
 ) -> Worked<B>
     ensures { HasWorked (C.tells clock.now) (MayCome A.named A.gives activities.items)
-        (is_left (is_some unknown.names) A.named activities.items) (taken_by receiver) (known_by result.receiver.value) reports.told
-        result.reports.value.told }
+        (is_left (is_some unknown.names) A.named activities.items) (taken_by receiver) (known_by result.value.0) reports.told
+        result.value.1.told }
 {
-    let (end, told) = worker(rt, alloc, activities, receiver, reports, unknown, clock);
-    let worked = worked_by(&end, &told);
-    drop(end);
-    drop(told);
+    let left = worker(rt, alloc, activities, receiver, reports, unknown, clock);
+    let worked = Snapshot::of(&left);
+    drop(left);
     drop(group);
     worked
 }

@@ -25,23 +25,8 @@ pub(crate) struct Closing<B: Room, T, G> {
     pub(crate) inputs: Snapshot<G>,
 }
 
-/// What a worker had at its end, for contracts alone.
-#[derive(Drop)]
-pub(crate) struct Worked<B: Room> {
-    pub(crate) receiver: Snapshot<TaskReceiver>,
-    pub(crate) reports: Snapshot<Reporter<B>>,
-}
-
-/// What these are now.
-pub(crate) fn worked_by<B: Room>(receiver: &TaskReceiver, reports: &Reporter<B>) -> Worked<B>
-    ensures receiver { result.receiver.value ≡ receiver.now }
-    ensures reports { result.reports.value ≡ reports.now }
-{
-    Worked {
-        receiver: Snapshot::of(receiver),
-        reports: Snapshot::of(reports),
-    }
-}
+/// What a worker had at its end, for contracts alone: where its tasks came from, and whom it reported to.
+pub(crate) type Worked<B> = Snapshot<(TaskReceiver, Reporter<B>)>;
 
 /// What a worker began with. At its end it has made an attempt of each task that it took, and has reported it.
 #[derive(Drop)]
@@ -59,7 +44,7 @@ impl<B: Room, A: Activity, C: Clock, P: Write> Promise<Worked<B>> for OwedWork<B
     ghost use Rattle.flow_pool.specs.Reports.{MayCome, is_left};
     ghost use Rattle.flow_work.specs.Working.{HasWorked};
 
-    ghost kept_by = { λ p r. HasWorked (C.tells p.clock.value) (MayCome A.named A.gives p.activities.value.items) (is_left (is_some p.unknown.value.names) A.named p.activities.value.items) (taken_by p.receiver.value) (known_by r.receiver.value) p.reports.value.told r.reports.value.told };
+    ghost kept_by = { λ p r. HasWorked (C.tells p.clock.value) (MayCome A.named A.gives p.activities.value.items) (is_left (is_some p.unknown.value.names) A.named p.activities.value.items) (taken_by p.receiver.value) (known_by r.value.0) p.reports.value.told r.value.1.told };
 }
 
 /// A thread that makes attempts.
