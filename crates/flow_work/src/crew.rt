@@ -22,7 +22,7 @@ use crate::unknown::Stranger;
 use crossbeam_channel::Sender;
 use crossbeam_utils::sync::WaitGroup;
 use flow_base::fault::Fault;
-use flow_hub::hub::Hub;
+use flow_hub::hub::{Hub, SeenClosed};
 use flow_hub::seats::Room;
 use flow_pool::activity::Activity;
 use flow_pool::dispatcher::dispatcher;
@@ -125,7 +125,7 @@ pub(crate) struct OwedReplies<B: Room, W: Write, C, G> {
     pub(crate) inputs: Snapshot<G>,
 }
 
-impl<B: Room, W: Write, C: Clock, G: Giving> Promise<Closing<B, Answered<B, W>, G>>
+impl<B: Room, W: Write, C: Clock, G: Giving> Promise<Closing<Answered<B, W>, SeenClosed<B>, G>>
     for OwedReplies<B, W, C, G> {
     ghost use Rattle.flow_work.specs.Promised.{OwesReplies};
 
@@ -134,7 +134,7 @@ impl<B: Room, W: Write, C: Clock, G: Giving> Promise<Closing<B, Answered<B, W>, 
 
 /// A thread that answers lines.
 pub(crate) type Answering<B, W, C, G> = PromisedHandle<
-    Closing<B, Answered<B, W>, G>,
+    Closing<Answered<B, W>, SeenClosed<B>, G>,
     OwedReplies<B, W, C, G>,
 >;
 
@@ -146,7 +146,7 @@ fn run_desk<
     C: Clock,
     P: Write + Drop,
     G: Giving + Drop,
->(rt: &R, answerer: Answerer<B, W, P, G>, clock: &C) -> Closing<B, Answered<B, W>, G>
+>(rt: &R, answerer: Answerer<B, W, P, G>, clock: &C) -> Closing<Answered<B, W>, SeenClosed<B>, G>
     ensures { OwesReplies (C.tells clock.now) answerer.desk.page answerer.desk.pending.lines.items (G.given answerer.inputs)
         (G.given result.inputs.value) result.left.submitter result.left.lines result.left.page }
 {
@@ -160,7 +160,9 @@ fn run_desk<
     let answered = run_clerk(rt, desk, clock, &mut inputs, progress);
     let given = Snapshot::of(&inputs);
     drop(inputs);
-    let seen = hub.close(rt);
+    let closed = hub.close(rt);
+    let seen = Snapshot::of(&closed);
+    drop(closed);
     Closing {
         left: answered,
         seen,

@@ -6,7 +6,6 @@ use crate::input::Taking;
 use crate::reports::Reporter;
 use crate::tasks::Tasks;
 use crate::unknown::Stranger;
-use flow_hub::hub::SeenClosed;
 use flow_hub::seats::Room;
 use flow_pool::activity::Activity;
 use flow_pool::ends::TaskReceiver;
@@ -15,12 +14,12 @@ use std::io::{BufRead, Write};
 use std::snapshot::Snapshot;
 use std::thread::{Promise, PromisedHandle};
 
-/// What is left of a thread that answers lines and closes the hub at its end, and what it saw then. Nothing but closing the hub gives
-/// that.
+/// What is left of a thread that answers lines and closes the hub at its end, and what it saw then: nothing but closing the hub gives
+/// what that is taken of.
 #[derive(Drop)]
-pub(crate) struct Closing<B: Room, T, G> {
+pub(crate) struct Closing<T, S, G> {
     pub(crate) left: T,
-    pub(crate) seen: SeenClosed<B>,
+    pub(crate) seen: Snapshot<S>,
     /// What gave it the lines, as it was at its end, for contracts alone.
     pub(crate) inputs: Snapshot<G>,
 }

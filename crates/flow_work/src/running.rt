@@ -27,7 +27,7 @@ use crossbeam_utils::sync::WaitGroup;
 use flow_base::fault::Fault;
 use flow_engine::engine::Engine;
 use flow_hub::feed::Feed;
-use flow_hub::hub::Hub;
+use flow_hub::hub::{Hub, SeenClosed};
 use flow_hub::publisher::Publisher;
 use flow_hub::seats::{Opened, Room};
 use flow_hub::submitter::Submitter;
@@ -297,7 +297,7 @@ fn feed_back<B: Room, R: Threads, A: Activity, C: Clock, P: Write>(
 fn ended_with<B: Room, R: Wait, W: Write + Drop>(
     rt: &R,
     publisher: &mut Publisher<B>,
-    answered: Closing<B, Answered<B, W>, Incoming>,
+    answered: Closing<Answered<B, W>, SeenClosed<B>, Incoming>,
     feed: Feed<B>,
     served: Result<(), Fault>,
 ) -> Ended<W>

@@ -23,7 +23,7 @@ use crossbeam_utils::sync::WaitGroup;
 use flow_base::fault::Fault;
 use flow_engine::engine::Engine;
 use flow_hub::feed::Feed;
-use flow_hub::hub::Hub;
+use flow_hub::hub::{Hub, SeenClosed};
 use flow_hub::publisher::Publisher;
 use flow_hub::seats::{Opened, Room};
 use flow_settings::settings::Settings;
@@ -80,7 +80,7 @@ where
 /// Who answers lines and prints tasks, the end by which it is told that no line is answered any more, who reads, and who fires what is
 /// due.
 type Telling<B, I, W, C> = (
-    PromisedHandle<Closing<B, Told<B, W>, Incoming>, Owed<B, W, C, Incoming>>,
+    PromisedHandle<Closing<Told<B, W>, SeenClosed<B>, Incoming>, Owed<B, W, C, Incoming>>,
     Sender<InputMessage>,
     ReadingLines<I, Ringing<B>>,
     Timing<B, C>,
@@ -165,7 +165,7 @@ where
 fn taken_back<B: Room, R: Wait, W: Write + Drop>(
     rt: &R,
     publisher: &mut Publisher<B>,
-    told: Closing<B, Told<B, W>, Incoming>,
+    told: Closing<Told<B, W>, SeenClosed<B>, Incoming>,
     served: Result<(), Fault>,
 ) -> Served<W>
     ensures served { result.ended.served ≡ served }

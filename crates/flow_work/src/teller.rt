@@ -8,7 +8,7 @@ use crate::giving::Giving;
 use crate::owing::Closing;
 use flow_base::fault::Fault;
 use flow_hub::feed::Feed;
-use flow_hub::hub::Hub;
+use flow_hub::hub::{Hub, SeenClosed};
 use flow_hub::seats::Room;
 use flow_timers::Clock;
 use std::alloc::{AllocError, Global};
@@ -37,7 +37,7 @@ pub(crate) struct Owed<B: Room, W: Write, C, G> {
     pub(crate) inputs: Snapshot<G>,
 }
 
-impl<B: Room, W: Write, C: Clock, G: Giving> Promise<Closing<B, Told<B, W>, G>>
+impl<B: Room, W: Write, C: Clock, G: Giving> Promise<Closing<Told<B, W>, SeenClosed<B>, G>>
     for Owed<B, W, C, G> {
     ghost use Rattle.flow_work.specs.Promised.{OwesLines};
 
@@ -49,7 +49,7 @@ fn run_teller<B: Room, W: Write + Drop, R: Wait + time::Clock, C: Clock, G: Givi
     rt: &R,
     teller: Teller<B, W, G>,
     clock: &C,
-) -> Closing<B, Told<B, W>, G>
+) -> Closing<Told<B, W>, SeenClosed<B>, G>
     ensures { OwesLines (C.tells clock.now) teller.desk.page teller.desk.pending.lines.items teller.feed (G.given teller.inputs)
         (G.given result.inputs.value) result.left.feed result.left.submitter result.left.lines result.left.page }
 {
@@ -64,7 +64,9 @@ fn run_teller<B: Room, W: Write + Drop, R: Wait + time::Clock, C: Clock, G: Givi
     counter.serve_lines(rt, clock, &mut inputs);
     let given = Snapshot::of(&inputs);
     drop(inputs);
-    let seen = hub.close(rt);
+    let closed = hub.close(rt);
+    let seen = Snapshot::of(&closed);
+    drop(closed);
     let left = counter.into_told();
     Closing {
         left,
@@ -78,7 +80,7 @@ pub(crate) fn start_teller<B, R, W, C, G>(
     rt: &R,
     teller: Teller<B, W, G>,
     clock: C,
-) -> Result<PromisedHandle<Closing<B, Told<B, W>, G>, Owed<B, W, C, G>>, Fault>
+) -> Result<PromisedHandle<Closing<Told<B, W>, SeenClosed<B>, G>, Owed<B, W, C, G>>, Fault>
 where
     B: Room + Send + Sync + 'static,
     R: Threads + Wait + time::Clock + Copy + Send + Drop + 'static,
