@@ -11,11 +11,12 @@ use crate::giving::Giving;
 use crate::handing::{Handing, Ringing};
 use crate::input::{InputMessage, Taking, read_lines};
 use crate::owing::{
-    Closing, Dispatching, LastRead, OwedLines, OwedTasks, OwedTicks, OwedWork, ReadingLines,
-    Timing, Worked, Working, last_read,
+    Closing, Dispatching, LastSeen, OwedLines, OwedTasks, OwedTicks, OwedWork, ReadingLines,
+    Timing, Worked, Working, last_seen,
 };
 use crate::progress::Progress;
 use crate::reports::Reporter;
+use crate::starting::{start_closing, start_seen};
 use crate::tasks::Tasks;
 use crate::timer::fire_timers;
 use crate::unknown::Stranger;
@@ -48,12 +49,13 @@ fn run_worker<B: Room, R: Wait + time::Clock, A: Activity + Drop, C: Clock, P: W
     group: WaitGroup,
 ) -> Worked<B>
     ensures { HasWorked (C.tells clock.now) (MayCome A.named A.gives activities.items)
-        (is_left (is_some unknown.names) A.named activities.items) (taken_by receiver) (known_by result.value.0) reports.told
-        result.value.1.told }
+        (is_left (is_some unknown.names) A.named activities.items) (taken_by receiver) (known_by result.source.value) reports.told
+        result.target.value.told }
 {
-    let left = worker(rt, alloc, activities, receiver, reports, unknown, clock);
-    let worked = Snapshot::of(&left);
-    drop(left);
+    let (end, told) = worker(rt, alloc, activities, receiver, reports, unknown, clock);
+    let worked = last_seen(&end, &told);
+    drop(end);
+    drop(told);
     drop(group);
     worked
 }
@@ -96,12 +98,12 @@ fn run_reader<R: Wait, I: BufRead + Drop, T: Taking>(
     alloc: Global,
     reader: I,
     taking: T,
-) -> LastRead<I, T>
-    ensures { HasHandedOn (T.gone result.taking.value) (I.remaining reader) (I.remaining result.reader.value) (T.taken taking)
-        (T.taken result.taking.value) }
+) -> LastSeen<I, T>
+    ensures { HasHandedOn (T.gone result.target.value) (I.remaining reader) (I.remaining result.source.value) (T.taken taking)
+        (T.taken result.target.value) }
 {
     let (reader_left, taking_left) = read_lines(rt, alloc, reader, taking);
-    let read = last_read(&reader_left, &taking_left);
+    let read = last_seen(&reader_left, &taking_left);
     drop(reader_left);
     drop(taking_left);
     read
@@ -199,7 +201,7 @@ where
         unknown: Snapshot::of(&unknown),
         clock: Snapshot::of(&clock),
     };
-    match thread::spawn_with(
+    match start_seen(
         rt,
         owed,
         move || run_worker(
@@ -207,7 +209,7 @@ where
         ),
     ) {
         Ok(thread) => Ok(thread),
-        Err(refused) => Err(Fault::from(AllocError::from(refused))),
+        Err(fault) => Err(fault),
     }
 }
 
@@ -347,8 +349,8 @@ where
         clock: Snapshot::of(&clock),
         inputs: Snapshot::of(&answerer.inputs),
     };
-    match thread::spawn_with(rt, owed, move || run_desk(&its, answerer, &clock)) {
+    match start_closing(rt, owed, move || run_desk(&its, answerer, &clock)) {
         Ok(thread) => Ok(thread),
-        Err(refused) => Err(Fault::from(AllocError::from(refused))),
+        Err(fault) => Err(fault),
     }
 }

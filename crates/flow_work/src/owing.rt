@@ -24,8 +24,26 @@ pub(crate) struct Closing<T, S, G> {
     pub(crate) inputs: Snapshot<G>,
 }
 
-/// What a worker had at its end, for contracts alone: where its tasks came from, and whom it reported to.
-pub(crate) type Worked<B> = Snapshot<(TaskReceiver, Reporter<B>)>;
+/// What a thread had at its end that takes from one thing and gives to another, for contracts alone.
+#[derive(Drop)]
+pub(crate) struct LastSeen<A, Z> {
+    pub(crate) source: Snapshot<A>,
+    pub(crate) target: Snapshot<Z>,
+}
+
+/// What these are now.
+pub(crate) fn last_seen<A, Z>(source: &A, target: &Z) -> LastSeen<A, Z>
+    ensures source { result.source.value ≡ source.now }
+    ensures target { result.target.value ≡ target.now }
+{
+    LastSeen {
+        source: Snapshot::of(source),
+        target: Snapshot::of(target),
+    }
+}
+
+/// What a worker had: where its tasks came from, and whom it reported to.
+pub(crate) type Worked<B> = LastSeen<TaskReceiver, Reporter<B>>;
 
 /// What a worker began with. At its end it has made an attempt of each task that it took, and has reported it.
 #[derive(Drop)]
@@ -43,7 +61,7 @@ impl<B: Room, A: Activity, C: Clock, P: Write> Promise<Worked<B>> for OwedWork<B
     ghost use Rattle.flow_pool.specs.Reports.{MayCome, is_left};
     ghost use Rattle.flow_work.specs.Working.{HasWorked};
 
-    ghost kept_by = { λ p r. HasWorked (C.tells p.clock.value) (MayCome A.named A.gives p.activities.value.items) (is_left (is_some p.unknown.value.names) A.named p.activities.value.items) (taken_by p.receiver.value) (known_by r.value.0) p.reports.value.told r.value.1.told };
+    ghost kept_by = { λ p r. HasWorked (C.tells p.clock.value) (MayCome A.named A.gives p.activities.value.items) (is_left (is_some p.unknown.value.names) A.named p.activities.value.items) (taken_by p.receiver.value) (known_by r.source.value) p.reports.value.told r.target.value.told };
 }
 
 /// A thread that makes attempts.
@@ -80,24 +98,6 @@ impl<B: Room, C: Clock> Promise<Snapshot<Reporter<B>>> for OwedTicks<B, C> {
 /// A thread that fires what is due.
 pub(crate) type Timing<B, C> = PromisedHandle<Snapshot<Reporter<B>>, OwedTicks<B, C>>;
 
-/// What the thread had at its end that reads, for contracts alone.
-#[derive(Drop)]
-pub(crate) struct LastRead<I, T> {
-    pub(crate) reader: Snapshot<I>,
-    pub(crate) taking: Snapshot<T>,
-}
-
-/// What these are now.
-pub(crate) fn last_read<I, T>(reader: &I, taking: &T) -> LastRead<I, T>
-    ensures reader { result.reader.value ≡ reader.now }
-    ensures taking { result.taking.value ≡ taking.now }
-{
-    LastRead {
-        reader: Snapshot::of(reader),
-        taking: Snapshot::of(taking),
-    }
-}
-
 /// What the thread began with that reads. At its end it has handed on what it read.
 #[derive(Drop)]
 pub(crate) struct OwedLines<I, T> {
@@ -105,11 +105,11 @@ pub(crate) struct OwedLines<I, T> {
     pub(crate) taking: Snapshot<T>,
 }
 
-impl<I: BufRead, T: Taking> Promise<LastRead<I, T>> for OwedLines<I, T> {
+impl<I: BufRead, T: Taking> Promise<LastSeen<I, T>> for OwedLines<I, T> {
     ghost use Rattle.flow_work.specs.Working.{HasHandedOn};
 
-    ghost kept_by = { λ p r. HasHandedOn (T.gone r.taking.value) (I.remaining p.reader.value) (I.remaining r.reader.value) (T.taken p.taking.value) (T.taken r.taking.value) };
+    ghost kept_by = { λ p r. HasHandedOn (T.gone r.target.value) (I.remaining p.reader.value) (I.remaining r.source.value) (T.taken p.taking.value) (T.taken r.target.value) };
 }
 
 /// A thread that reads.
-pub(crate) type ReadingLines<I, T> = PromisedHandle<LastRead<I, T>, OwedLines<I, T>>;
+pub(crate) type ReadingLines<I, T> = PromisedHandle<LastSeen<I, T>, OwedLines<I, T>>;

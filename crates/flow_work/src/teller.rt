@@ -6,17 +6,18 @@ use crate::counter::{Counter, Told};
 use crate::desk::Desk;
 use crate::giving::Giving;
 use crate::owing::Closing;
+use crate::starting::start_closing;
 use flow_base::fault::Fault;
 use flow_hub::feed::Feed;
 use flow_hub::hub::{Hub, SeenClosed};
 use flow_hub::seats::Room;
 use flow_timers::Clock;
-use std::alloc::{AllocError, Global};
+use std::alloc::Global;
 use std::io::Write;
 use std::snapshot::Snapshot;
 use std::sync::{Arc, Wait};
 use std::thread::{Promise, PromisedHandle, Threads};
-use std::{thread, time};
+use std::time;
 
 /// All that the thread has that answers lines and prints tasks.
 #[derive(Drop)]
@@ -98,8 +99,8 @@ where
         clock: Snapshot::of(&clock),
         inputs: Snapshot::of(&teller.inputs),
     };
-    match thread::spawn_with(rt, owed, move || run_teller(&its, teller, &clock)) {
+    match start_closing(rt, owed, move || run_teller(&its, teller, &clock)) {
         Ok(thread) => Ok(thread),
-        Err(refused) => Err(Fault::from(AllocError::from(refused))),
+        Err(fault) => Err(fault),
     }
 }
