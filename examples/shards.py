@@ -39,7 +39,7 @@ NONE_OPEN = b'{"reply":"open","runs":[]}'
 
 def home(flow, count):
     """The file of a flow: the first eight hexadecimal digits of the SHA-256 of its name, modulo the number of files, plus one."""
-    return int(hashlib.sha256(flow.encode("utf-8", "surrogatepass")).hexdigest()[:8], 16) % count + 1
+    return int.from_bytes(hashlib.sha256(flow.encode("utf-8", "surrogatepass")).digest()[:4], "big") % count + 1
 
 
 def end(why, status=3):
@@ -93,7 +93,9 @@ def even_texts(paths):
 
 
 class Line:
-    """A line that came in: how many files have to reply to it, what they do, and the tasks that they print behind that."""
+    """A line that came in: how many files have to reply to it, what they do, and the tasks that they print after that."""
+
+    __slots__ = ("text", "wanted", "replies", "tasks", "is_printed", "task")
 
     def __init__(self, text):
         self.text, self.wanted, self.replies, self.tasks, self.is_printed = text, 1, [], b"", False
@@ -129,7 +131,10 @@ class Shard:
 
     def named(self, told):
         """What it has printed, with runs as they're named here."""
-        return LIST.sub(self.goes_on, RUN.sub(rb'"run":"%d-\1"' % self.number, told), 1)
+        if head := LIST.match(told):
+            return self.goes_on(head) + RUN.sub(rb'"run":"%d-\1"' % self.number, told[head.end() :])
+        run = RUN.search(told)
+        return b'%s"run":"%d-%s"%s' % (told[: run.start()], self.number, run[1], told[run.end() :]) if run else told
 
     def goes_on(self, head):
         """The head of a list of the open runs. After those of this file come those of the next one."""
@@ -216,15 +221,16 @@ class Shards:
                 end(f"the files reply to a text in different ways: {line.replies}")
             reply, line.is_printed = line.replies[0], True
             self.out += reply + b"\n" + line.tasks
-            self.status = max(self.status, 3 if NOT_APPLIED in reply else int(reply == NO_COMMAND))
+            if reply == NO_COMMAND or NOT_APPLIED in reply:
+                self.status = max(self.status, 1 if reply == NO_COMMAND else 3)
             self.text = None if line is self.text else self.text
 
     def go_on(self):
-        """Prints the replies whose turn it is, and sends the lines whose turn it is."""
+        """Prints the replies whose turn it is, sends the lines whose turn it is, and prints the replies to those that no file gets."""
         self.print_replies()
         while self.lines and not self.text:
             self.take(self.lines.popleft())
-            self.print_replies()
+        self.print_replies()
 
     def read_input(self):
         try:
