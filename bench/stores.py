@@ -17,7 +17,7 @@ SMALL = 'workflow a(n: int) { activity c(int, text) -> int; let r = 0; r = call 
 WAITS = "workflow w(n: int) { signal s: int; let r = 0; r = wait signal s; return r + n; }"
 # The tables with rows of a run, each with the column that names it.
 COLUMNS = {"run": "num", "event2": "run", "timer": "run", "outbox": "run"}
-NUMBERS = "WITH RECURSIVE numbers(n) AS (SELECT 2 UNION ALL SELECT n + 1 FROM numbers WHERE n < ?)"
+NUMBERS = "WITH RECURSIVE numbers(n) AS (SELECT 2 WHERE ?1 >= 2 UNION ALL SELECT n + 1 FROM numbers WHERE n < ?1)"
 
 
 def register(text):
