@@ -1,7 +1,5 @@
 //! Threads whose results cross to who joins them, whatever it is that contracts see in these.
 ghost use Rattle.std.specs.Prelude.{◌≡◌, IfErr, IfOk};
-ghost use Rattle.flow_work.specs.declared.owing.Closing.{Closing};
-ghost use Rattle.flow_work.specs.declared.owing.LastSeen.{LastSeen};
 
 use crate::owing::{Closing, LastSeen};
 use flow_base::fault::Fault;
@@ -22,7 +20,7 @@ where
     Q: Promise<LastSeen<A, Z>> + Drop,
     F: FnOnce() -> LastSeen<A, Z> + Send + Drop + 'static,
     requires runs { F.pre body }
-    requires keeps { (r : LastSeen A Z) → F.post body r → Q.kept_by owed r }
+    requires keeps { (r : _) → F.post body r → Q.kept_by owed r }
     ensures owed { IfOk result (λ h. h.promise ≡ owed) }
     ensures refused { IfErr result (λ f. f ≡ Fault.NoMemory _) }
 {
@@ -46,7 +44,7 @@ where
     Q: Promise<Closing<T, S, G>> + Drop,
     F: FnOnce() -> Closing<T, S, G> + Send + Drop + 'static,
     requires runs { F.pre body }
-    requires keeps { (r : Closing T S G) → F.post body r → Q.kept_by owed r }
+    requires keeps { (r : _) → F.post body r → Q.kept_by owed r }
     ensures owed { IfOk result (λ h. h.promise ≡ owed) }
     ensures refused { IfErr result (λ f. f ≡ Fault.NoMemory _) }
 {
