@@ -1,6 +1,6 @@
-use Rattle.std.proofs.Common.{inl, inr, ◌∷◌, ap, sym, ◌∙◌}
+use Rattle.std.proofs.Common.{inl, inr, ◌∷◌, ap, refl, sym, ◌∙◌}
 use Rattle.flow_hub.proofs.Growing.{before_trans}
-use Rattle.flow_serve.proofs.Posted.{later_self, posts_still, posts_then, still_later}
+use Rattle.flow_serve.proofs.Posted.{known_still, later_self, posts_still, posts_then, still_later}
 use Rattle.flow_engine.proofs.Boarding.{still_then}
 use Rattle.flow_serve.proofs.Turning.{posted_first, refused_first, turn_again}
 use Rattle.flow_serve.proofs.server.post_board.Goals as goal
@@ -65,3 +65,12 @@ returns-in-Err-clause-turn g c =
     (refused_first _ _ _ c.try_board.result (sym c.is_ok.ensures.value ∙ c.if-is_ok.false) c.try_board.ensures.tried)
     c.try_board.ensures.skipped
     (inr (skipped.posted ∙ why.0, (c.in-Err.fault, (why.1, skipped.skipped ∙ ap (λ fs. c.in-Err.fault ∷ fs) c.try_board-2.ensures.skipped))))
+
+-- what the next one may rest on
+pub try_board-2-requires-clause-known : goal.try_board-2-requires-clause-known
+try_board-2-requires-clause-known g c = λ _. c.try_board.ensures.known
+
+pub returns-in-Err-clause-known : goal.returns-in-Err-clause-known
+returns-in-Err-clause-known g c =
+    let new = c.try_board-2.new.engine in
+    known_still new new c.try_board-2.new.publisher.posted c.skip.new.self.posted refl c.skip.ensures.skipped.posted (λ goes. goes) c.try_board-2.ensures.known

@@ -2,11 +2,32 @@ use Rattle.std.proofs.Common.{refl, sym}
 use Rattle.flow_hub.proofs.Growing.{same_part}
 use Rattle.flow_hub.proofs.Serving.{boarded_together, is_fresh, same_history}
 use Rattle.flow_commit.specs.Keeping.{account_of}
-use Rattle.flow_serve.proofs.Posted.{board_was, posts_none, posts_one}
+use Rattle.flow_serve.proofs.Posted.{board_was, known_asked, known_behind, known_more, known_still, posts_none, posts_one}
 use Rattle.flow_engine.proofs.Boarding.{board_still}
 use Rattle.flow_serve.proofs.Serving.{same_base}
 use Rattle.flow_serve.proofs.Turning.{no_memory_board}
 use Rattle.flow_serve.proofs.server.try_board.Goals as goal
+
+-- what the last board found posted is posted still
+pub ask_board-requires : goal.ask_board-requires
+ask_board-requires g c = record { still = λ again goes. known_asked c.args.engine.now c.args.publisher.now.posted c.posted.result.now c.posted.ensures (c.requires.known again) goes }
+
+pub returns-in-Ok-post-clause-known : goal.returns-in-Ok-post-clause-known
+returns-in-Ok-post-clause-known g c =
+    let was = c.args.publisher.now.posted in
+    known_more c.ask_board.new.engine was _ c.post.new.self.posted c.in-Ok-post.ensures.posted.posted
+    (known_behind c.args.engine.now c.ask_board.new.engine was c.posted.result.now c.posted.ensures c.ask_board.ensures.stayed.same.0 c.ask_board.ensures.owes)
+
+pub returns-in-Err-post-clause-known : goal.returns-in-Err-post-clause-known
+returns-in-Err-post-clause-known g c =
+    let was = c.args.publisher.now.posted in
+    let new = c.ask_board.new.engine in
+    known_still new new was c.post.new.self.posted refl (sym c.in-Err-post.ensures.refused.1.posted) (λ goes. goes)
+    (known_behind c.args.engine.now new was c.posted.result.now c.posted.ensures c.ask_board.ensures.stayed.same.0 c.ask_board.ensures.owes)
+
+pub returns-in-Err-clause-known : goal.returns-in-Err-clause-known
+returns-in-Err-clause-known g c =
+    known_behind c.args.engine.now c.ask_board.new.engine c.args.publisher.now.posted c.posted.result.now c.posted.ensures c.ask_board.ensures.stayed.same.0 c.ask_board.ensures.owes
 
 -- the board was made of what is kept, which is what is published
 pub post-requires : goal.post-requires
