@@ -119,14 +119,14 @@ were_turned : (posted : List Key) (since n : ℕ) (r : Run) (t : Turn) → since
 were_turned posted since n r t late were =
     were_after posted since n t.at r.tasks (turn_events (length r.history + 1) t.at t.input t.commands) late (refl, traces_at (length r.history + 1 + 1) t.at t.commands) were
 
+abbrev Was : List Key → ℕ → ℕ → OpenActivity → Type 0
+Was posted since n t = t.ready < since → is_posted posted (n, t.event, t.attempt) ≡ true
+
 were_attempted : (posted : List Key) (since n event attempt ready : ℕ) (ts : List OpenActivity) → since ≤ ready → WerePosted posted since n ts → WerePosted posted since n (map (at_attempt event attempt ready) ts)
 were_attempted posted since n event attempt ready [] late were = tt
 were_attempted posted since n event attempt ready (t ∷ ts) late were = (by (nat_eq t.event event), were_attempted posted since n event attempt ready ts late were.1)
   where
-    One : OpenActivity → Type 0
-    One x = x.ready < since → is_posted posted (n, x.event, x.attempt) ≡ true
-
-    by : (v : Bool) → One (if v then record { event = t.event; attempt = attempt; ready = ready } else t)
+    by : (v : Bool) → Was posted since n (if v then record { event = t.event; attempt = attempt; ready = ready } else t)
     by true sooner = absurd (omega (arith, sooner, late))
     by false sooner = were.0 sooner
 
@@ -142,16 +142,16 @@ module _ (posted : List Key) (b : Book) where
       by true is = own n is
       by false is = others n
 
+  abbrev made : ℕ → (Run → Run) → Option Run → Book
+  made run f o = elim o [ None ↦ b | Some r ↦ record b { runs = slice_set b.runs (run - 1) (f r) } ]
+
   of_run_changed : (since run : ℕ) (f : Run → Run) → ((n : ℕ) (r : Run) → WerePosted posted since n r.tasks → WerePosted posted since n (f r).tasks) → AllWerePosted posted since b → AllWerePosted posted since (with_run b run f)
   of_run_changed since run f on were = by (nth b.runs run) refl
     where
-      made : Option Run → Book
-      made o = elim o [ None ↦ b | Some r ↦ record b { runs = slice_set b.runs (run - 1) (f r) } ]
-
-      by : (o : Option Run) → nth b.runs run ≡ o → AllWerePosted posted since (made o)
+      by : (o : Option Run) → nth b.runs run ≡ o → AllWerePosted posted since (made run f o)
       by None is = were
       by (Some r) is =
-          of_one since run (tasks_at b) (tasks_at (made (Some r))) (f r).tasks (at_set tasks_of b.runs run r (f r) is)
+          of_one since run (tasks_at b) (tasks_at (made run f (Some r))) (f r).tasks (at_set tasks_of b.runs run r (f r) is)
           (λ n own. on n r (subst (λ m. WerePosted posted since m r.tasks) (run_is run n own) (subst (λ o. WerePosted posted since run (of_run tasks_of o)) is (were run)))) were
 
   were_changed : (since : ℕ) (c : Change) → AllWerePosted posted since b → AllWerePosted posted (since_changed since c) (changed b c)
@@ -226,31 +226,29 @@ has_kept p (x ∷ ws) w (inr has) is = by (p x) (has_kept p ws w has is)
     by true more = inr more
     by false more = more
 
--- behind a board all that is ready before the next moment was posted, but for what it names
-pub looked_after : (posted : List Key) (at : ℕ) (b : Book) → AllWerePosted posted (since_next posted at b) b
-looked_after posted at b n = were_all posted next n (tasks_at b n) each
-  where
-    new : List Waiting
-    new = filter (is_new posted) (ready_by at b)
+module _ (posted : List Key) (at : ℕ) (b : Book) where
+  abbrev named : List Waiting
+  named = filter (is_new posted) (ready_by at b)
 
-    next : ℕ
-    next = since_all (at + 1) new
+  by_then : (t : OpenActivity) → t.ready < since_all (at + 1) named → nat_le t.ready at ≡ true
+  by_then t sooner = elim (cases_Bool (nat_le t.ready at)) [
+    | inl is ↦ is
+    | inr late ↦
+        let after = leb-false t.ready at late in
+        let before = all_no_later (at + 1) named in
+        absurd (omega (arith, after, sooner, before))
+  ]
 
-    each : (t : OpenActivity) → Has (tasks_at b n) t → t.ready < next → is_posted posted (n, t.event, t.attempt) ≡ true
-    each t has sooner = by (is_posted posted (n, t.event, t.attempt)) refl
-      where
-        before : next ≤ at + 1
-        before = all_no_later (at + 1) new
+  was_posted : (n : ℕ) (t : OpenActivity) → Has (tasks_at b n) t → t.ready < since_all (at + 1) named → (v : Bool) → is_posted posted (n, t.event, t.attempt) ≡ v → is_posted posted (n, t.event, t.attempt) ≡ true
+  was_posted n t has sooner true is = is
+  was_posted n t has sooner false is =
+      let there : Has named (n, t) = has_kept (is_new posted) (ready_by at b) (n, t) (has_kept (is_by at) (waiting b) (n, t) (at_waits b n t has) (by_then t sooner)) (ap not is) in
+      let least = none_sooner (at + 1) named (n, t) there in
+      absurd (omega (arith, least, sooner))
 
-        ready : nat_le t.ready at ≡ true
-        ready = elim (cases_Bool (nat_le t.ready at)) [ inl is ↦ is | inr late ↦ let after = leb-false t.ready at late in absurd (omega (arith, after, sooner, before)) ]
-
-        by : (v : Bool) → is_posted posted (n, t.event, t.attempt) ≡ v → is_posted posted (n, t.event, t.attempt) ≡ true
-        by true is = is
-        by false is =
-            let named : Has new (n, t) = has_kept (is_new posted) (ready_by at b) (n, t) (has_kept (is_by at) (waiting b) (n, t) (at_waits b n t has) ready) (ap not is) in
-            let least = none_sooner (at + 1) new (n, t) named in
-            absurd (omega (arith, least, sooner))
+  -- behind a board all that is ready before the next moment was posted, but for what it names
+  pub looked_after : AllWerePosted posted (since_next posted at b) b
+  looked_after n = were_all posted (since_next posted at b) n (tasks_at b n) (λ t has sooner. was_posted n t has sooner (is_posted posted (n, t.event, t.attempt)) refl)
 
 -- what is read of what waits, and of what it names, is the draft
 pub draft_is : (posted : List Key) (since at : ℕ) (b : Book) (o : BookWaits) (new : List Waiting) (d : Draft) → AllWerePosted posted since b → o ≡ outlook_of since at b → new ≡ filter (is_new posted) o.ready
