@@ -203,12 +203,12 @@ commit_taken-requires g c =
 pub post_board-requires-clause-known : goal.post_board-requires-clause-known
 post_board-requires-clause-known g c = λ again. absurd (true≢false (sym again))
 
-pub post_board-requires-clause-together-in-loop : goal.post_board-requires-clause-together-in-loop
-post_board-requires-clause-together-in-loop g c = c.commit_taken.ensures.together
+pub post_board-requires-in-loop-clause-together : goal.post_board-requires-in-loop-clause-together
+post_board-requires-in-loop-clause-together g c = c.commit_taken.ensures.together
 
 -- what the last board found posted is posted still
-pub post_board-requires-clause-known-in-loop : goal.post_board-requires-clause-known-in-loop
-post_board-requires-clause-known-in-loop g c =
+pub post_board-requires-in-loop-clause-known : goal.post_board-requires-in-loop-clause-known
+post_board-requires-in-loop-clause-known g c =
     let told = c.commit_taken.new.publisher in
     λ _. known_still c.loop.engine c.commit_taken.new.engine c.loop.publisher.posted told.posted c.commit_taken.ensures.still
     (c.commit_taken.ensures.posted ∙ c.take.ensures.taken.posted) (λ _. c.in_ok-commit_taken.ensures.goes_on.0) c.loop.invariant.known
