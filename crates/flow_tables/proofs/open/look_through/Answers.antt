@@ -13,9 +13,6 @@ use Rattle.flow_tables.proofs.Opened.{caused}
 use Rattle.flow_tables.proofs.Stopping.{rows_told}
 use Rattle.flow_tables.proofs.open.look_through.Goals as goal
 
-pub read_book-requires : goal.read_book-requires
-read_book-requires g c = (Two, c.in-Ok.ensures.ours)
-
 pub returns-in-Ok-Ok-clause-reads : goal.returns-in-Ok-Ok-clause-reads
 returns-in-Ok-Ok-clause-reads g c clean was =
     let read = c.in-Ok.ensures.asked.reads false was clean in
