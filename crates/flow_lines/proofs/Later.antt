@@ -36,21 +36,22 @@ module _ (one two : Book → List Command → Code → Type 0) (on : Gives one t
     parts_too b [] later h = tt
     parts_too b (p ∷ ps) later h = (part_too b p h.0, (h.1.0, parts_too (book_by u b p) ps later h.1.1))
 
-    pub answered_too : (b b1 : Book) (known left old new : Option (List ℕ)) (n : ℕ) → IfSome known (λ bytes. Answered u one cut b b1 bytes left old new n) → IfSome known (λ bytes. Answered u two cut b b1 bytes left old new n)
-    answered_too b b1 None left old new n h = tt
-    answered_too b b1 (Some bytes) left old new n h = record {
+    pub answered_too : (counted : Book → List Part → Type 0) (b b1 : Book) (known left old new : Option (List ℕ)) (n : ℕ) → IfSome known (λ bytes. Answered u one counted cut b b1 bytes left old new n) → IfSome known (λ bytes. Answered u two counted cut b b1 bytes left old new n)
+    answered_too counted b b1 None left old new n h = tt
+    answered_too counted b b1 (Some bytes) left old new n h = record {
       parts = h.parts;
       rest = h.rest;
       left_is = h.left_is;
       lines_are = h.lines_are;
       parts_are = parts_too b h.parts (lines_of h.rest) h.parts_are;
+      counted_is = h.counted_is;
       book_is = h.book_is;
       written_are = h.written_are;
       status_is = h.status_is;
     }
 
-    pub some_too : (b b1 : Book) (least n : ℕ) (old new : Option (List ℕ)) → SomeAnswered u one cut b b1 least old new n → SomeAnswered u two cut b b1 least old new n
-    some_too b b1 least n old new h = record { parts = h.parts; many = h.many; parts_are = parts_too b h.parts [] h.parts_are; book_is = h.book_is; written_are = h.written_are; status_is = h.status_is }
+    pub some_too : (counted : Book → List Part → Type 0) (b b1 : Book) (least n : ℕ) (old new : Option (List ℕ)) → SomeAnswered u one counted cut b b1 least old new n → SomeAnswered u two counted cut b b1 least old new n
+    some_too counted b b1 least n old new h = record { parts = h.parts; many = h.many; parts_are = parts_too b h.parts [] h.parts_are; counted_is = h.counted_is; book_is = h.book_is; written_are = h.written_are; status_is = h.status_is }
 
     told_too : (b b1 : Book) (lines : List (List ℕ)) (tells : List Line → Type 0) → TellsPart u one b b1 lines tells → TellsPart u two b b1 lines tells
     told_too b b1 lines tells h = record { part = h.part; lines_are = h.lines_are; part_is = part_too b h.part h.part_is; book_is = h.book_is; told = h.told }
@@ -77,23 +78,24 @@ module _ (one two : Book → List Command → Code → Type 0) (on : Gives one t
       ends_too e b b1 later old new (inr h) =
           inr (record { next = h.next; rest = h.rest; lines_are = h.lines_are; cut_is = h.cut_is; stops_at = at_too e b b1 h.next old new h.stops_at })
 
-      stops_within_too : (b b1 : Book) (e : Fault) (whole : List (List ℕ)) (old new : Option (List ℕ)) → StopsWithin u one stops cut b b1 e whole old new → StopsWithin u two since cut b b1 e whole old new
-      stops_within_too b b1 e whole old new h = record {
+      stops_within_too : (counted : Book → List Part → Type 0) (b b1 : Book) (e : Fault) (whole : List (List ℕ)) (old new : Option (List ℕ)) → StopsWithin u one counted stops cut b b1 e whole old new → StopsWithin u two counted since cut b b1 e whole old new
+      stops_within_too counted b b1 e whole old new h = record {
         parts = h.parts;
         later = h.later;
         out = h.out;
         lines_are = h.lines_are;
         parts_are = parts_too b h.parts h.later h.parts_are;
+        counted_is = h.counted_is;
         written_are = h.written_are;
         ends = ends_too e (book_behind u b h.parts) b1 h.later h.out new h.ends;
       }
 
-      pub stops_too : (b b1 : Book) (e : Fault) (known old new : Option (List ℕ)) → IfSome known (λ bytes. StopsWithin u one stops cut b b1 e (lines_of bytes) old new) → IfSome known (λ bytes. StopsWithin u two since cut b b1 e (lines_of bytes) old new)
-      stops_too b b1 e None old new h = tt
-      stops_too b b1 e (Some bytes) old new h = stops_within_too b b1 e (lines_of bytes) old new h
+      pub stops_too : (counted : Book → List Part → Type 0) (b b1 : Book) (e : Fault) (known old new : Option (List ℕ)) → IfSome known (λ bytes. StopsWithin u one counted stops cut b b1 e (lines_of bytes) old new) → IfSome known (λ bytes. StopsWithin u two counted since cut b b1 e (lines_of bytes) old new)
+      stops_too counted b b1 e None old new h = tt
+      stops_too counted b b1 e (Some bytes) old new h = stops_within_too counted b b1 e (lines_of bytes) old new h
 
-      pub among_too : (b b1 : Book) (e : Fault) (old new : Option (List ℕ)) → StopsAmong u one stops cut b b1 e old new → StopsAmong u two since cut b b1 e old new
-      among_too b b1 e old new h = record { whole = h.whole; stops_are = stops_within_too b b1 e h.whole old new h.stops_are }
+      pub among_too : (counted : Book → List Part → Type 0) (b b1 : Book) (e : Fault) (old new : Option (List ℕ)) → StopsAmong u one counted stops cut b b1 e old new → StopsAmong u two counted since cut b b1 e old new
+      among_too counted b b1 e old new h = record { whole = h.whole; stops_are = stops_within_too counted b b1 e h.whole old new h.stops_are }
 
       next_too : (b book : Book) (cs : List Command) (known : Option (List ℕ)) → IfSome known (λ bytes. ComeNext u one cut b bytes book cs) → IfSome known (λ bytes. ComeNext u two cut b bytes book cs)
       next_too b book cs None h = tt
