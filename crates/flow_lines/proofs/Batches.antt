@@ -13,7 +13,7 @@ use Rattle.flow_base.specs.declared.fault.Fault.{Fault}
 use Rattle.flow_model.specs.Book.{Book}
 use Rattle.flow_model.specs.Answers.{IsGivenUp}
 use Rattle.flow_model.specs.declared.answer.Stop.{Stop}
-use Rattle.flow_lines.specs.Answering.{Part, Applied, GivenUp, IsPart, FirstLine, Answered, BatchAnswered, EndsFull, EndsNext, Gathered, HasEnded, HasFew, HasOneMore, HoldsLines, IsBatch, IsFilled, IsFull, OfBatch, ReadAs, StatusWithin, StopsAtPart, StopsBetween, StopsWithin, TellsPart, WritesAll, WritesPart, WritesSome, all_applied, all_given_up, answers_by, are_commands, commands_in, last_or, lines_by, lines_told, marked, with_command}
+use Rattle.flow_lines.specs.Answering.{Part, Applied, GivenUp, IsPart, FirstLine, Answered, BatchAnswered, EndsFull, EndsNext, Gathered, HasEnded, HasFew, HasOneMore, HoldsLines, IsBatch, IsFilled, IsFull, OfBatch, ReadAs, StatusWithin, StopsAtSome, StopsBetween, StopsWithin, TellsPart, WritesAll, WritesPart, WritesSome, all_applied, all_given_up, answers_by, are_commands, commands_in, last_or, lines_by, lines_told, marked, with_command}
 use Rattle.flow_lines.specs.Commands.{line_command}
 use Rattle.flow_lines.specs.Driving.{lines_of, written, answer_status, final_status}
 use Rattle.flow_lines.specs.Replies.{line_text}
@@ -100,12 +100,12 @@ module _ (u : Rules) (given_up : Book → List Command → Code → Type 0) wher
       }
 
   pub stops_batch : (counted : Book → List Part → Type 0) (stops : Book → List Command → Stop → Type 0) (most : ℕ) (b b1 : Book) (e : Fault) (c : Command) (commands : List Command) (marks : List Bool) (known left old new : Option (List ℕ)) → Gathered (c ∷ []) commands (true ∷ []) marks known left → 1 ≤ length commands → length commands ≤ most → EndsFull most commands marks → IsFilled most commands marks known left
-      → ((ls : List (List ℕ)) → HoldsLines ls commands marks → StopsAtPart u given_up stops e b b1 ls old new) → counted b [] → IfSome known (λ bytes. (first : List ℕ) → line_command first ≡ Some c → StopsWithin u given_up counted stops (IsFull most) b b1 e (first ∷ lines_of bytes) old new)
-  stops_batch counted stops most b b1 e c commands marks None left old new g some few last filled ends none = tt
-  stops_batch counted stops most b b1 e c commands marks (Some bytes) left old new g some few last filled ends none = λ first given.
+      → ((ls : List (List ℕ)) → HoldsLines ls commands marks → StopsAtSome u given_up stops e b b1 ls old new) → counted b [] → ((p : Part) → IsPart given_up b p → counted b (p ∷ [])) → IfSome known (λ bytes. (first : List ℕ) → line_command first ≡ Some c → StopsWithin u given_up counted stops (IsFull most) b b1 e (first ∷ lines_of bytes) old new)
+  stops_batch counted stops most b b1 e c commands marks None left old new g some few last filled ends none one = tt
+  stops_batch counted stops most b b1 e c commands marks (Some bytes) left old new g some few last filled ends none one = λ first given.
       let holds = holds_first first c commands marks (Some bytes) left g given in
       first_stops u given_up counted (IsFull most) stops b b1 e (first ∷ lines_of bytes) (first ∷ g.lines) (lines_of g.read.rest) old new (ap (λ l. first ∷ l) g.read.lines_are)
-      (is_full most first c commands marks given some few last g.lines left g.read.rest holds g.read.left_is filled) (ends (first ∷ g.lines) holds) none
+      (is_full most first c commands marks given some few last g.lines left g.read.rest holds g.read.left_is filled) (ends (first ∷ g.lines) holds) none one
 
   module _ (cut : List (List ℕ) → List (List ℕ) → Type 0) where
     -- nothing of a batch is answered that wasn't begun

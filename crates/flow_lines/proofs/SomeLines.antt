@@ -1,5 +1,5 @@
 -- Lines that were answered, where the bytes of the input needn't be known.
-use Rattle.std.proofs.Common.{◌≡◌, ℕ, suc, ◌+◌, ◌≤◌, Bool, true, List, [], ◌∷◌, ◌++◌, length, max, Option, Some, None, inl, inr, refl, sym, ap, ◌∙◌, subst, arith, append-nil, length-append}
+use Rattle.std.proofs.Common.{◌≡◌, ℕ, suc, ◌+◌, ◌≤◌, Bool, true, List, [], ◌∷◌, ◌++◌, length, max, Option, Some, None, inl, inr, refl, sym, ap, ◌∙◌, subst, arith, append_assoc, append-nil, length-append}
 use Rattle.std.specs.Io.KnownBytes.{Appends}
 use Rattle.std.proofs.KnownBytes.{Appends-nil}
 use Rattle.flow_base.specs.declared.code.Code.{Code}
@@ -8,7 +8,7 @@ use Rattle.flow_base.specs.declared.fault.Fault.{Fault}
 use Rattle.flow_model.specs.Apply.{Rules, after}
 use Rattle.flow_model.specs.Book.{Book}
 use Rattle.flow_model.specs.declared.answer.Stop.{Stop}
-use Rattle.flow_lines.specs.Answering.{Part, Lone, Applied, GivenUp, AreParts, IsPart, EndsFull, Gathered, HasFew, HoldsLines, SomeAnswered, StopsAmong, StopsAtPart, StopsBetween, StopsNext, TellsPart, WritesAll, WritesPart, answers_by, book_behind, commands_in, lines_by, lines_in}
+use Rattle.flow_lines.specs.Answering.{Part, Lone, Applied, GivenUp, AreParts, IsPart, EndsFull, Gathered, HasFew, HoldsLines, SomeAnswered, StopsAmong, StopsAtSome, StopsBetween, StopsNext, TellsPart, WritesAll, WritesPart, answers_by, book_behind, commands_in, lines_by, lines_in}
 use Rattle.flow_lines.specs.Commands.{line_command}
 use Rattle.flow_lines.specs.Driving.{answer_status, final_status, written}
 use Rattle.flow_lines.specs.Replies.{line_text}
@@ -93,8 +93,8 @@ module _ (u : Rules) (given_up : Book → List Command → Code → Type 0) (mos
 
     module _ (stops : Book → List Command → Stop → Type 0) where
       -- the answer to a line that is no command wasn't all written
-      pub some_bad_stops : (b : Book) (e : Fault) (old new : Option (List ℕ)) (line : List ℕ) → line_command line ≡ None → WritesPart e old new (line_text a_line.Bad ++ 10 ∷ []) → counted b [] → StopsAmong u given_up counted stops (HasFew most) b b e old new
-      some_bad_stops b e old new line bad w none = record { whole = line ∷ []; stops_are = bad_stops u given_up counted (HasFew most) stops b e (line ∷ []) [] old new line refl bad w none }
+      pub some_bad_stops : (b : Book) (e : Fault) (old new : Option (List ℕ)) (line : List ℕ) → line_command line ≡ None → WritesPart e old new (line_text a_line.Bad ++ 10 ∷ []) → counted b [] → ((p : Part) → IsPart given_up b p → counted b (p ∷ [])) → StopsAmong u given_up counted stops (HasFew most) b b e old new
+      some_bad_stops b e old new line bad w none one = record { whole = line ∷ []; stops_are = bad_stops u given_up counted (HasFew most) stops b e (line ∷ []) [] old new line refl bad w none one }
 
       -- nothing was answered
       pub none_among : (b : Book) (e : Fault) (out : Option (List ℕ)) → StopsBetween e → counted b [] → StopsAmong u given_up counted stops (HasFew most) b b e out out
@@ -102,14 +102,14 @@ module _ (u : Rules) (given_up : Book → List Command → Code → Type 0) (mos
 
       -- it ended in a batch that was begun
       pub some_batch_stops : (b b1 : Book) (e : Fault) (c : Command) (commands : List Command) (marks : List Bool) (known left old new : Option (List ℕ)) → Gathered (c ∷ []) commands (true ∷ []) marks known left → 1 ≤ length commands → length commands ≤ most → EndsFull most commands marks
-          → ((ls : List (List ℕ)) → HoldsLines ls commands marks → StopsAtPart u given_up stops e b b1 ls old new) → (first : List ℕ) → line_command first ≡ Some c → counted b [] → StopsAmong u given_up counted stops (HasFew most) b b1 e old new
-      some_batch_stops b b1 e c commands marks known left old new g some few last ends first given none =
+          → ((ls : List (List ℕ)) → HoldsLines ls commands marks → StopsAtSome u given_up stops e b b1 ls old new) → (first : List ℕ) → line_command first ≡ Some c → counted b [] → ((p : Part) → IsPart given_up b p → counted b (p ∷ [])) → StopsAmong u given_up counted stops (HasFew most) b b1 e old new
+      some_batch_stops b b1 e c commands marks known left old new g some few last ends first given none one =
           let holds = holds_first first c commands marks known left g given in
           record {
             whole = first ∷ g.lines;
             stops_are =
                 first_stops u given_up counted (HasFew most) stops b b1 e (first ∷ g.lines) (first ∷ g.lines) [] old new (sym (append-nil (first ∷ g.lines)))
-                (is_few most first c commands marks given some few last g.lines [] holds) (ends (first ∷ g.lines) holds) none;
+                (is_few most first c commands marks given some few last g.lines [] holds) (ends (first ∷ g.lines) holds) none one;
           }
 
       -- what stops the lines behind stops them all
@@ -124,9 +124,10 @@ module _ (u : Rules) (given_up : Book → List Command → Code → Type 0) (mos
               out = w.out;
               lines_are = lines_on (lines_in f.parts ++ g.whole) g.whole w.later f.parts w.parts refl w.lines_are;
               parts_are = few_on b b1 f.parts w.parts w.later f.book_is f.parts_are w.parts_are;
-              counted_is = add b b1 f.parts w.parts f.book_is f.counted_is w.counted_is;
+              here = w.here;
+              counted_is = subst (counted b) (sym (append_assoc f.parts w.parts w.here)) (add b b1 f.parts (w.parts ++ w.here) f.book_is f.counted_is w.counted_is);
               written_are = written_on u b b1 f.parts w.parts old new w.out f.book_is f.written_are w.written_are;
-              ends = subst (λ x. StopsNext u given_up stops (HasFew most) e x b2 w.later w.out new1) (book_on u b b1 f.parts w.parts f.book_is) w.ends;
+              ends = subst (λ x. StopsNext u given_up stops (HasFew most) e w.here x b2 w.later w.out new1) (book_on u b b1 f.parts w.parts f.book_is) w.ends;
             };
           }
 

@@ -20,7 +20,8 @@ returns-in-Ok-clause-stopped g c =
     let old = c.args.engine.now in
     let new = c.answer_begun.new.engine in
     let on = c.answer_begun.ensures.follows old (g.met.E.Answering.follows_self old) in
-    IfErr-weaker c.answer_begun.result _ _ (λ e h sure. stops_batch _ _ (IsCounted g.E.Answering old new) _ c.args.most _ _ e _ _ _ _ _ _ _ c.in-Ok.ensures.gathered c.in-Ok.ensures.some c.in-Ok.ensures.few c.in-Ok.ensures.ends c.in-Ok.ensures.full (h sure c.args.most c.in-Ok.ensures.few) (counted_none g.E.Answering old new _ (g.met.E.Answering.failures_still old new sure on))) c.answer_begun.ensures.stopped
+    IfErr-weaker c.answer_begun.result _ _ (λ e h sure. stops_batch _ _ (IsCounted g.E.Answering old new) _ c.args.most _ _ e _ _ _ _ _ _ _ c.in-Ok.ensures.gathered c.in-Ok.ensures.some c.in-Ok.ensures.few c.in-Ok.ensures.ends c.in-Ok.ensures.full (h sure c.args.most c.in-Ok.ensures.few) (counted_none g.E.Answering old new _ (g.met.E.Answering.failures_still old new sure on))
+    (λ p. counted_one g.E.Answering old new _ (g.met.E.Answering.failures_still old new sure on) c.args.most p (λ cs. g.met.E.Answering.excused_or_failed old new _ cs sure))) c.answer_begun.ensures.stopped
 
 pub returns-in-Ok-clause-cause : goal.returns-in-Ok-clause-cause
 returns-in-Ok-clause-cause g c =
@@ -44,7 +45,8 @@ returns-in-Ok-clause-cut g c =
     let old = c.args.engine.now in
     let new = c.answer_begun.new.engine in
     let on = c.answer_begun.ensures.follows old (g.met.E.Answering.follows_self old) in
-    IfErr-weaker c.answer_begun.result _ _ (λ e h sure line given. some_batch_stops _ _ c.args.most (IsCounted g.E.Answering old new) _ _ _ e _ _ _ _ _ _ _ c.in-Ok.ensures.gathered c.in-Ok.ensures.some c.in-Ok.ensures.few c.in-Ok.ensures.ends (h sure c.args.most c.in-Ok.ensures.few) line given (counted_none g.E.Answering old new _ (g.met.E.Answering.failures_still old new sure on))) c.answer_begun.ensures.stopped
+    IfErr-weaker c.answer_begun.result _ _ (λ e h sure line given. some_batch_stops _ _ c.args.most (IsCounted g.E.Answering old new) _ _ _ e _ _ _ _ _ _ _ c.in-Ok.ensures.gathered c.in-Ok.ensures.some c.in-Ok.ensures.few c.in-Ok.ensures.ends (h sure c.args.most c.in-Ok.ensures.few) line given (counted_none g.E.Answering old new _ (g.met.E.Answering.failures_still old new sure on))
+    (λ p. counted_one g.E.Answering old new _ (g.met.E.Answering.failures_still old new sure on) c.args.most p (λ cs. g.met.E.Answering.excused_or_failed old new _ cs sure))) c.answer_begun.ensures.stopped
 
 pub returns-in-Err-clause-cut : goal.returns-in-Err-clause-cut
 returns-in-Err-clause-cut g c sure line given =

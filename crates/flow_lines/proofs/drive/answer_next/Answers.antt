@@ -46,6 +46,7 @@ returns-in-Err-NotACommand-clause-stopped g c sure =
     let old = c.args.engine.now in
     bad_written _ _ (IsCounted g.E.Answering old old) _ _ _ c.in-Err-write_told.fault _ _ _ _ _ c.as_slice.result.now first c.as_slice.ensures.value bad c.in-Err-write_told.ensures.stopped
     (counted_none g.E.Answering old old _ (g.met.E.Answering.failures_still old old sure (g.met.E.Answering.follows_self old)))
+    (λ p. counted_one g.E.Answering old old _ (g.met.E.Answering.failures_still old old sure (g.met.E.Answering.follows_self old)) c.args.most p (λ cs. g.met.E.Answering.excused_or_failed old old _ cs sure))
 
 pub returns-clause-stopped : goal.returns-clause-stopped
 returns-clause-stopped g c sure =
@@ -76,6 +77,7 @@ returns-in-Err-NotACommand-clause-cut g c sure =
     let old = c.args.engine.now in
     some_bad_stops _ _ c.args.most (IsCounted g.E.Answering old old) _ _ c.in-Err-write_told.fault _ _ c.as_slice.result.now bad c.in-Err-write_told.ensures.stopped
     (counted_none g.E.Answering old old _ (g.met.E.Answering.failures_still old old sure (g.met.E.Answering.follows_self old)))
+    (λ p. counted_one g.E.Answering old old _ (g.met.E.Answering.failures_still old old sure (g.met.E.Answering.follows_self old)) c.args.most p (λ cs. g.met.E.Answering.excused_or_failed old old _ cs sure))
 
 pub returns-clause-cut : goal.returns-clause-cut
 returns-clause-cut g c sure =
