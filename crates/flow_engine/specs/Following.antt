@@ -1,6 +1,6 @@
 -- What an engine keeps from call to call, and that the causes of what it gave up stay, and the failures that were counted.
-use Rattle.std.proofs.Common.{◌≡◌, ◌⊎◌, inl, inr, ℕ, ◌≤◌, false, List, Option, refl, ◌∙◌, subst, arith}
-use Rattle.std.specs.Prelude.{IsSome}
+use Rattle.std.specs.Prelude.{◌≡◌, ◌⊎◌, ◌≤◌, ℕ, false, Option, IsSome}
+use Rattle.std.proofs.Common.{inl, inr, List, refl, ◌∙◌, subst, arith}
 use Rattle.sqlite.specs.Held.{state}
 use Rattle.sqlite_disk.specs.Disk.{MoreFaults}
 use Rattle.sqlite_trees.specs.declared.store.Store.{Ghosts}
