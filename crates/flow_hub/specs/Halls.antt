@@ -1,5 +1,5 @@
 -- What lies under the lock, as plain data.
-use Rattle.std.specs.Prelude.{ℕ, ◌+◌, ◌≡◌, List, [], ◌∷◌, ◌++◌, length, map, All, refl}
+use Rattle.std.specs.Prelude.{ℕ, ◌+◌, ◌≡◌, List, [], ◌∷◌, ◌++◌, length, map, All, Result, Ok, Err, Some, slice_get, remove, refl}
 use Rattle.std.specs.Coded.{Coded, code_by, coded×, coded_ℕ}
 use Rattle.flow_base.specs.declared.code.Code.{Code}
 use Rattle.flow_base.specs.declared.fault.Fault.{Fault}
@@ -84,6 +84,11 @@ fetched_receipt h rs = record h { known = with_fetched h.known; answered = rs }
 
 abbrev pub fetched_refusal : Hall → List Refused → Hall
 fetched_refusal h rs = record h { known = with_fetched h.known; refused = rs }
+
+-- this answer is handed out: of those that weren't fetched it is left out, and nothing else is changed but their count
+abbrev pub HandsOut : Hall → Hall → Result Receipt Refused → Type 0
+HandsOut old new (Ok r) = (k : ℕ) × (slice_get old.answered k ≡ Some r) × (new ≡ fetched_receipt old (remove old.answered k))
+HandsOut old new (Err r) = (k : ℕ) × (slice_get old.refused k ≡ Some r) × (new ≡ fetched_refusal old (remove old.refused k))
 
 abbrev pub enrolled : Hall → Hall
 enrolled h = record h { known = with_member h.known }

@@ -4,7 +4,7 @@ ghost use Rattle.std.specs.Vec.{vec_capacity};
 ghost use Rattle.flow_hub.specs.Asks.{Stands, IsOwn, IsGone, IsTold};
 ghost use Rattle.flow_hub.specs.Knowing.{IsBefore, IsHistory, IsSamePart, answered_in, nothing};
 ghost use Rattle.flow_hub.specs.Seating.{opener, seeing, IsSubmitters, IsPublishers};
-ghost use Rattle.flow_hub.specs.Halls.{submitted, took, published, refused_all, fetched_receipt, fetched_refusal, enrolled, closed, ended, new_ask, unfetched};
+ghost use Rattle.flow_hub.specs.Halls.{HandsOut, submitted, took, published, refused_all, fetched_receipt, fetched_refusal, enrolled, closed, ended, new_ask, unfetched};
 ghost use Rattle.flow_hub.specs.Publishing.{Answers, HasTaken, HasPublished, HasRefused, HasEnded, IsAllTaken, IsDone, TakesAll};
 ghost use Rattle.flow_hub.specs.Submitting.{HasTakenIn, IsFetched, IsOpen, IsDenied, IsSettled};
 
@@ -393,7 +393,7 @@ impl<B: Room> State<B> {
     }
 
     /// What a ticket was answered by, if it is one of these and its answer came. Its place is free then, and it is one of these no more.
-    #[tactic(auto, using(crate::proofs::Growing::before_trans))]
+    #[tactic(auto, using(crate::proofs::Growing::before_trans, crate::proofs::Fetching::handed_since))]
     pub(crate) fn answer(
         &mut self,
         seats: &HubTable<B>,
@@ -411,6 +411,8 @@ impl<B: Room> State<B> {
         ensures one_more { IfSome result.1 (λ a. me.was.fetched < result.0.was.fetched) }
         ensures none { IfNone result.1 (All (λ n. n ≢ ticket) mine.old.items
             ⊎ (All (λ r. r.ticket ≢ ticket) self.old.answered × All (λ r. r.asked.ticket ≢ ticket) self.old.refused)) }
+        // Nobody else's answer is touched: this one is left out, and all others lie where they lay.
+        ensures handed { MatchOption result.1 (self.new ≡ self.old) (λ a. HandsOut self.old self.new a) }
         ensures mine { MatchOption result.1 (mine.new.items ≡ mine.old.items) (λ a. IsFetched mine.old.items mine.new.items ticket) }
         ensures owed { length mine.new.items ≡ result.0.owed }
         ensures capacity { vec_capacity mine.new ≡ vec_capacity mine.old }

@@ -143,8 +143,8 @@ module _ {S : Type 0} (g : Ghosts S) where
       → HasTurn g tells old new was posted left missed
   turn_again tells old mid new was then posted left since missed first second same none (inl one) = inl
       (subst (λ (ts : List Task). PostsOne g tells new ts posted) same one.0, one.1 ∙ none)
-  turn_again tells old mid new was then posted left since missed first second same none (inr (still, (f, (why, is)))) = inr
-      (still ∙ same, (f, (none_again old mid new f first second why, is ∙ ap (λ fs. f ∷ fs) none)))
+  turn_again tells old mid new was then posted left since missed first second same none (inr (still, (f, why, is))) = inr
+      (still ∙ same, (f, none_again old mid new f first second why, is ∙ ap (λ fs. f ∷ fs) none))
 
   pub turn_still : (tells : ℕ → Type 0) (old new : Keeping S) (was then posted : List Task) (left since missed : List Fault) → posted ≡ then
       → missed ≡ since → HasTurn g tells old new was then left since → HasTurn g tells old new was posted left missed
@@ -208,7 +208,7 @@ module _ {S : Type 0} (g : Ghosts S) where
           among = t.among;
           counted = λ fit. skipped_still old mid new t.skipped (still.stored.3 fit.0 fit.1).0 (shuts fit) (t.counted (before fit));
         }
-    turns_more (inr (same, (f, (why, is)))) =
+    turns_more (inr (same, (f, why, is))) =
         let count : n ≡ length t.boards + length t.skipped = t.all in
         record {
           boards = t.boards;

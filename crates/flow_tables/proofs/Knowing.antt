@@ -65,11 +65,11 @@ still_there n m apart (x ∷ rows) there = elim (cases_Bool (int_eq x.id (pos n)
             absurd (true≢false (sym (eq-eqb n m is) ∙ apart))
         | inr other ↦ rw other (rw same refl)
       ]
-  | inr no ↦
-      let rest = still_there n m apart rows (rw no at there) in
+  | inr away ↦
+      let rest = still_there n m apart rows (rw away at there) in
       elim (cases_Bool (int_eq x.id (pos m))) [
         | inl gone ↦ rw gone rest
-        | inr stays ↦ rw stays (rw no rest)
+        | inr stays ↦ rw stays (rw away rest)
       ]
 ]
 

@@ -13,7 +13,7 @@ pub mod Stopping
 pub mod Reasons
 pub mod Knowing
 pub mod Succession
-pub mod Blocks
+pub mod Stretches
 pub mod Opened
 pub mod OpenTables
 pub mod Misreading

@@ -1,7 +1,7 @@
 use Rattle.std.proofs.Common.{rules, ◌≡◌, []}
 use Rattle.flow_hub.proofs.Growing.{before_self, before_trans, same_part}
 use Rattle.flow_hub.proofs.Lists.{no_length}
-use Rattle.flow_hub.proofs.Sound.{none_taken}
+use Rattle.flow_hub.proofs.Sound.{none_taken, takes_all_since}
 use Rattle.flow_hub.proofs.publisher.taken.Goals as goal
 
 pub loop-init : goal.loop-init
@@ -26,3 +26,9 @@ loop-preserved g c =
       search rules,
       search rules,
     )
+
+pub returns-then-not-is_empty-clause-whole : goal.returns-then-not-is_empty-clause-whole
+returns-then-not-is_empty-clause-whole g c = takes_all_since c.args.most c.args.seat.was c.loop.me.was c.take-me.result.was c.loop.invariant.1 c.take-me.ensures.whole
+
+pub returns-then-is_closed-clause-whole : goal.returns-then-is_closed-clause-whole
+returns-then-is_closed-clause-whole g c = takes_all_since c.args.most c.args.seat.was c.loop.me.was c.take-me.result.was c.loop.invariant.1 c.take-me.ensures.whole

@@ -64,4 +64,4 @@ returns-in-Err-clause-turn g c =
     c.try_board.ensures.still c.try_board-2.ensures.still
     (refused_first _ _ _ c.try_board.result (sym c.is_ok.ensures.value ∙ c.if-is_ok.false) c.try_board.ensures.tried)
     c.try_board.ensures.skipped
-    (inr (skipped.posted ∙ why.0, (c.in-Err.fault, (why.1, skipped.skipped ∙ ap (λ fs. c.in-Err.fault ∷ fs) c.try_board-2.ensures.skipped))))
+    (inr (skipped.posted ∙ why.0, (c.in-Err.fault, why.1, skipped.skipped ∙ ap (λ fs. c.in-Err.fault ∷ fs) c.try_board-2.ensures.skipped)))

@@ -40,31 +40,23 @@ pub returns-in-Err-serve_all-clause-boards : goal.returns-in-Err-serve_all-claus
 returns-in-Err-serve_all-clause-boards g c =
     let t = c.turn_away.ensures.turned in (
       t.0,
-      (
-        c.serve_all.new.publisher.skipped,
-        (
-          boarded_behind g.S.Store (g.C.Clock.tells c.args.clock.now) c.args.engine.now c.args.publisher.now.refused
-              c.args.publisher.now.posted c.args.publisher.now.skipped c.serve_all.new.engine c.serve_all.new.publisher.refused
-              c.turn_away.new.publisher.refused c.serve_all.new.publisher.posted c.turn_away.new.publisher.posted
-              c.serve_all.new.publisher.skipped t.0 t.1 c.turn_away.ensures.posted c.in-Err-serve_all.ensures.boards,
-          c.turn_away.ensures.skipped,
-        ),
-      ),
+      c.serve_all.new.publisher.skipped,
+      boarded_behind g.S.Store (g.C.Clock.tells c.args.clock.now) c.args.engine.now c.args.publisher.now.refused
+          c.args.publisher.now.posted c.args.publisher.now.skipped c.serve_all.new.engine c.serve_all.new.publisher.refused
+          c.turn_away.new.publisher.refused c.serve_all.new.publisher.posted c.turn_away.new.publisher.posted
+          c.serve_all.new.publisher.skipped t.0 t.1 c.turn_away.ensures.posted c.in-Err-serve_all.ensures.boards,
+      c.turn_away.ensures.skipped,
     )
 
 pub returns-in-Err-clause-boards : goal.returns-in-Err-clause-boards
 returns-in-Err-clause-boards g c =
     let t = c.turn_away-in-Err.ensures.turned in (
       t.0,
-      (
-        c.args.publisher.now.skipped,
-        (
-          unboarded g.S.Store (g.C.Clock.tells c.args.clock.now) c.args.engine.now c.args.publisher.now.refused
-              c.args.publisher.now.posted c.args.publisher.now.skipped c.turn_away-in-Err.new.publisher.refused
-              c.turn_away-in-Err.new.publisher.posted t.0 t.1 c.turn_away-in-Err.ensures.posted,
-          c.turn_away-in-Err.ensures.skipped,
-        ),
-      ),
+      c.args.publisher.now.skipped,
+      unboarded g.S.Store (g.C.Clock.tells c.args.clock.now) c.args.engine.now c.args.publisher.now.refused
+          c.args.publisher.now.posted c.args.publisher.now.skipped c.turn_away-in-Err.new.publisher.refused
+          c.turn_away-in-Err.new.publisher.posted t.0 t.1 c.turn_away-in-Err.ensures.posted,
+      c.turn_away-in-Err.ensures.skipped,
     )
 
 -- what is turned away changes nothing that is kept
