@@ -22,6 +22,9 @@ pub struct Deciding<V, P> {
 }
 
 impl<V: View + Drop, P: Programs + Drop> Answering for Deciding<V, P> {
+    ghost use Rattle.std.proofs.Common.{inl};
+    ghost use Rattle.flow_model.proofs.Failures.{no_fewer};
+
     ghost rules = { rules_of P.meaning };
 
     ghost book = { λ s. V.book s.view };
@@ -46,9 +49,9 @@ impl<V: View + Drop, P: Programs + Drop> Answering for Deciding<V, P> {
     ghost gives_up_since = { λ a b c k cs code on later none. none };
 
     // No failure is counted, since there is no store.
-    ghost failures_still = { λ a b sure on. zero_least };
+    ghost failures_still = { λ a b sure on. no_fewer 0 };
 
-    ghost excused_or_failed = { λ a b k cs sure none. absurd none };
+    ghost excused_or_failed = { λ a b k cs sure none. inl none };
 
     ghost excuses_still = { λ a b c k cs sure on none. none };
 

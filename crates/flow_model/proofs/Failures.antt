@@ -1,6 +1,9 @@
 -- How many failures a store has counted.
-use Rattle.std.proofs.Common.{ℕ, suc, ◌+◌, ◌≤◌, arith}
+use Rattle.std.proofs.Common.{ℕ, ◌+◌, ◌≤◌, arith}
 use Rattle.flow_model.specs.Answers.{IsMoreBy}
+
+pub no_fewer : (a : ℕ) → a ≤ a
+no_fewer a = omega arith
 
 pub more_none : (a b : ℕ) → a ≤ b → IsMoreBy 0 a b
 more_none a b le = omega (arith, le)
