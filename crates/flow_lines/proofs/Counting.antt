@@ -1,5 +1,5 @@
 -- How many batches of lines are given up, from part to part.
-use Rattle.std.proofs.Common.{◌≡◌, ◌⊎◌, inl, inr, ℕ, suc, ◌+◌, ◌≤◌, List, [], ◌∷◌, ◌++◌, refl, sym, ◌∙◌, ap, subst, arith}
+use Rattle.std.proofs.Common.{◌≡◌, ◌⊎◌, inl, inr, ℕ, suc, ◌+◌, ◌≤◌, List, [], ◌∷◌, ◌++◌, refl, sym, ◌∙◌, subst, arith}
 use Rattle.flow_base.specs.declared.code.Code.{Code}
 use Rattle.flow_base.specs.declared.code.Code.TheVariants as code
 use Rattle.flow_base.specs.declared.command.Command.{Command}
@@ -82,7 +82,3 @@ module _ {E : Type 0} (a : Answerings E) where
         (but_on a.rules (a.excuses mid new) (a.excuses old new) since g.failures (book_behind a.rules b ps) qs
         (subst (λ k. AreGivenUpBut a.rules (a.excuses mid new) g.failures k qs) is g.are));
   }
-
--- what was so is so where nothing has changed
-pub still_so : {S W : Type 0} (so : S → W → Type 0) (s1 s2 : S) (w1 w2 : W) → s2 ≡ s1 → w2 ≡ w1 → so s1 w1 → so s2 w2
-still_so so s1 s2 w1 w2 same wrote is = subst (λ s. so s w2) (sym same) (subst (λ w. so s1 w) (sym wrote) is)

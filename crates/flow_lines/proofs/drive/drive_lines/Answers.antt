@@ -1,13 +1,12 @@
-use Rattle.std.proofs.Common.{IfSome, arith, rules, inl, inr, refl, sym, subst, ◌∙◌}
-use Rattle.flow_lines.specs.Answering.{AllAnswered, HasFew, IsFull, OfBatch, SomeAnswered}
+use Rattle.std.proofs.Common.{arith, rules, inl, inr, refl, ◌∙◌}
+use Rattle.flow_lines.specs.Answering.{HasFew, IsFull, OfBatch}
 use Rattle.flow_lines.specs.Counting.{IsCounted}
-use Rattle.flow_lines.specs.Driving.{lines_of}
 use Rattle.flow_lines.proofs.Answering.{all_answered, begins, both_within, goes_on, stops_later}
-use Rattle.flow_lines.proofs.Counting.{counted_none, counted_then, still_so}
+use Rattle.flow_lines.proofs.Counting.{counted_none, counted_then}
 use Rattle.flow_lines.proofs.Later.{among_too, answered_too, batch_gives, cause_too, some_too, stops_too, within_too}
 use Rattle.flow_lines.proofs.Stopping.{stopped_later}
 use Rattle.flow_lines.proofs.Ends.{gives_none, gives_on}
-use Rattle.flow_lines.proofs.SomeLines.{some_begin, some_fewer, some_more, some_still, some_stop_later}
+use Rattle.flow_lines.proofs.SomeLines.{some_begin, some_end, some_more, some_still, some_stop_later}
 use Rattle.flow_lines.proofs.drive.drive_lines.Goals as goal
 
 pub loop-init : goal.loop-init
