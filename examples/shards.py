@@ -2,8 +2,9 @@
 """Runs many files as one: shards.py N DIR [-- WORDS], where WORDS are what `flow serve` takes behind its file.
 
 It keeps a `flow serve` over each of DIR/shard-1.db to DIR/shard-N.db, reads the lines that `flow serve` reads, and prints what it prints.
-A flow is in one file, by a hash of its name, and a run is named by its file and its number there, as in `"run":"2-17"`. Replies come in
-the order of the lines, and each task once. A `flow` that ends is started again, and gets once more the lines that it hasn't replied to.
+A flow is in one file, by a hash of its name, and a run is named by its file and its number there, as in `"run":"2-17"`. What is open in all
+files is listed from "1-1" on. Replies come in the order of the lines, and each task once. A `flow` that ends is started again, and gets once
+more the lines that it hasn't replied to.
 docs/OPERATING.md says when to take it, and what it doesn't give."""
 import argparse
 import collections
@@ -28,14 +29,17 @@ PIECE = 1 << 16
 NAME = re.compile(r"([1-9]\d{0,8})-([1-9]\d{0,18})")
 RUN = re.compile(rb'"run":(\d+)')
 TASK, NOT_APPLIED = b'"reply":"task"', b'"reply":"not applied"'
+# How a list of the open runs begins, and where it goes on.
+LIST = re.compile(rb'{(?:"next":(\d+),)?"reply":"open"')
 # After these replies to a report its task is open still.
 OPEN_STILL = (NOT_APPLIED, b'"code":"E02"', b'"code":"E66"')
 NO_COMMAND, NO_RUN = b'{"code":"E02","reply":"refused"}', b'{"code":"E70","reply":"refused"}'
+NONE_OPEN = b'{"reply":"open","runs":[]}'
 
 
 def home(flow, count):
     """The file of a flow: the first eight hexadecimal digits of the SHA-256 of its name, modulo the number of files, plus one."""
-    return int(hashlib.sha256(flow.encode("utf-8", "surrogatepass")).hexdigest()[:8], 16) % count + 1
+    return int.from_bytes(hashlib.sha256(flow.encode("utf-8", "surrogatepass")).digest()[:4], "big") % count + 1
 
 
 def end(why, status=3):
@@ -89,7 +93,9 @@ def even_texts(paths):
 
 
 class Line:
-    """A line that came in: how many files have to reply to it, what they do, and the tasks that they print behind that."""
+    """A line that came in: how many files have to reply to it, what they do, and the tasks that they print after that."""
+
+    __slots__ = ("text", "wanted", "replies", "tasks", "is_printed", "task")
 
     def __init__(self, text):
         self.text, self.wanted, self.replies, self.tasks, self.is_printed = text, 1, [], b"", False
@@ -99,8 +105,8 @@ class Line:
 class Shard:
     """A file, and its `flow serve`, one life after the other."""
 
-    def __init__(self, number, path, words):
-        self.number, self.path, self.words = number, path, words
+    def __init__(self, number, path, words, is_last):
+        self.number, self.path, self.words, self.is_last = number, path, words, is_last
         self.sent = collections.deque()  # the lines without a reply: replies come in their order
         self.held = set()  # the tasks that were printed, and no report of them was taken yet
         self.last = None  # the last line that has its reply
@@ -124,9 +130,17 @@ class Shard:
             self.unwritten.clear()
 
     def named(self, told):
-        """What it has printed, with the run as it's named here."""
+        """What it has printed, with runs as they're named here."""
+        if head := LIST.match(told):
+            return self.goes_on(head) + RUN.sub(rb'"run":"%d-\1"' % self.number, told[head.end() :])
         run = RUN.search(told)
         return b'%s"run":"%d-%s"%s' % (told[: run.start()], self.number, run[1], told[run.end() :]) if run else told
+
+    def goes_on(self, head):
+        """The head of a list of the open runs. After those of this file come those of the next one."""
+        if not head[1] and self.is_last:
+            return head[0]
+        return b'{"next":"%d-%s","reply":"open"' % ((self.number, head[1]) if head[1] else (self.number + 1, b"1"))
 
     def reply(self, told):
         """Puts a reply to its line."""
@@ -145,7 +159,7 @@ class Shards:
         flows = ((flow, number) for number, path in enumerate(paths, 1) for flow in rows(path, "SELECT flow FROM run"))
         # the flows that were there before files were added: they stay where they are
         self.stayed = {flow: number for flow, number in flows if home(flow, count) != number}
-        self.shards = [Shard(number, path, words) for number, path in enumerate(paths, 1)]
+        self.shards = [Shard(number, path, words, number == count) for number, path in enumerate(paths, 1)]
         self.lines, self.rest, self.is_over, self.status = collections.deque(), b"", False, 0
         self.asked = collections.deque()  # the lines whose replies aren't printed yet
         self.text = None  # a text that is being registered: nothing else is sent until all files have it
@@ -156,16 +170,17 @@ class Shards:
         line = Line(text + b"\n")
         try:
             command = json.loads(text.decode())
-            do, flow, run = command.get("do"), command.get("flow"), command.get("run")
+            do, flow, key = command.get("do"), command.get("flow"), "from" if command.get("ask") == "open" else "run"
+            run = command.get(key)
         except (ValueError, AttributeError, RecursionError):
-            do = flow = run = None
+            do = flow = run = key = None
         named, to = isinstance(run, str) and NAME.fullmatch(run), []
         if do == "register":
             to, self.text = self.shards, line
         elif isinstance(flow, str):
             to = [self.shards[self.stayed.get(flow, home(flow, len(self.shards))) - 1]]
         elif named:
-            number, command["run"] = map(int, named.groups())
+            number, command[key] = map(int, named.groups())
             to, line.text = self.shards[number - 1 : number], json.dumps(command).encode() + b"\n"
             line.task = (command["run"], command.get("event"), command.get("attempt")) if do in ("complete", "fail") else None
         self.asked.append(line)
@@ -173,7 +188,7 @@ class Shards:
         for shard in to:
             shard.send(line)
         if not to:  # a tick comes here too: each file fires its own timers
-            line.wanted, line.replies = 1, [NO_RUN if named else NO_COMMAND]
+            line.wanted, line.replies = 1, [(NONE_OPEN if key == "from" else NO_RUN) if named else NO_COMMAND]
 
     def hear(self, shard, told):
         """What a file prints: a task, or the reply to the first of its lines that has none."""
@@ -206,15 +221,16 @@ class Shards:
                 end(f"the files reply to a text in different ways: {line.replies}")
             reply, line.is_printed = line.replies[0], True
             self.out += reply + b"\n" + line.tasks
-            self.status = max(self.status, 3 if NOT_APPLIED in reply else int(reply == NO_COMMAND))
+            if reply == NO_COMMAND or NOT_APPLIED in reply:
+                self.status = max(self.status, 1 if reply == NO_COMMAND else 3)
             self.text = None if line is self.text else self.text
 
     def go_on(self):
-        """Prints the replies whose turn it is, and sends the lines whose turn it is."""
+        """Prints the replies whose turn it is, sends the lines whose turn it is, and prints the replies to those that no file gets."""
         self.print_replies()
         while self.lines and not self.text:
             self.take(self.lines.popleft())
-            self.print_replies()
+        self.print_replies()
 
     def read_input(self):
         try:

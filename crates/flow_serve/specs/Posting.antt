@@ -50,32 +50,42 @@ pub record HasNoBoard {S : Type 0} (g : Ghosts S) (old new : Keeping S) (f : Fau
   pub among : IsOfBoard old.halted f
   pub cause : IsFit g new → f ≡ fault.StoreRefused → IsDown g old.stored new.stored
 
--- A board was asked for: it was posted, or there is none for this fault, which is the last one for which one was skipped.
-abbrev pub HasTurn : {S : Type 0} → Ghosts S → (ℕ → Type 0) → Keeping S → Keeping S → List Task → List Task → List Fault → List Fault → Type 0
-HasTurn g tells old new was posted left missed =
-    (PostsOne g tells new was posted × (missed ≡ left)) ⊎ ((posted ≡ was) × ((f : Fault) × HasNoBoard g old new f × (missed ≡ f ∷ left)))
-
 -- This stands behind each of these that is E80, but for so many.
 abbrev pub AreRefusedBut : Type 0 → ℕ → List Fault → Type 0
 AreRefusedBut why n [] = Unit {0}
 AreRefusedBut why n (f ∷ fs) = ((f ≡ fault.StoreRefused → why) × AreRefusedBut why n fs)
     ⊎ ((fewer : ℕ) × (n ≡ suc fewer) × AreRefusedBut why fewer fs)
 
--- So often there was no board for E80 at most as the store has counted failures, if nothing else holds it back.
+-- So often a board was refused for E80 at most as the store has counted failures, if nothing else holds it back.
 pub record AreSkipped {S : Type 0} (g : Ghosts S) (old new : Keeping S) (skipped : List Fault) : Type 0 where
   pub failures : ℕ
   pub counted : IsMoreBy failures (state_of g old.stored).faults (state_of g new.stored).faults
   pub are : AreRefusedBut (IsHeldBack g old new) failures skipped
 
--- A board was asked for so many times: these were posted one behind the other, and the others were skipped for these faults, which are
--- those that the publisher was told of since.
+-- There is no board, since it was refused twice, for these two faults: behind each that is E80 the store has counted a failure of its own,
+-- if nothing else holds it back.
+pub record IsRefusedTwice {S : Type 0} (g : Ghosts S) (old new : Keeping S) (first last : Fault) : Type 0 where
+  pub first_is : IsOfBoard old.halted first
+  pub last_is : IsOfBoard old.halted last
+  pub counted : IsFit g new → AreSkipped g old new (last ∷ first ∷ [])
+
+-- A board was asked for: it was posted, or there is none for these two faults, which are the last ones that were noted.
+abbrev pub HasTurn : {S : Type 0} → Ghosts S → (ℕ → Type 0) → Keeping S → Keeping S → List Task → List Task → List Fault → List Fault → Type 0
+HasTurn g tells old new was posted left missed =
+    (PostsOne g tells new was posted × (missed ≡ left))
+    ⊎ ((posted ≡ was) × ((first : Fault) × (last : Fault) × IsRefusedTwice g old new first last × (missed ≡ last ∷ first ∷ left)))
+
+-- A board was asked for so many times: these were posted one behind the other, and the others were skipped for these faults, two for
+-- each, which are those that the publisher was told of since.
 pub record HasTurns {S : Type 0} (g : Ghosts S) (tells : ℕ → Type 0) (old new : Keeping S) (was posted : List Task)
     (left missed : List Fault) (turns : ℕ) : Type 0 where
   pub boards : List Boarded
   pub are : ArePosted g tells new was posted boards
   pub skipped : List Fault
   pub noted : missed ≡ skipped ++ left
-  pub all : turns ≡ length boards + length skipped
+  pub skips : ℕ
+  pub twice : length skipped ≡ skips + skips
+  pub all : turns ≡ length boards + skips
   pub among : All (IsOfBoard old.halted) skipped
   pub counted : IsFit g new → AreSkipped g old new skipped
 

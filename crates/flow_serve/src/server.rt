@@ -123,7 +123,7 @@ fn post_board<S: Alter, B: Room, R: Wait, C: Clock>(
     requires together { Together (account_of S.Store engine.old) publisher.old }
     ensures together { Together (account_of S.Store engine.new) publisher.new }
     ensures boarded { publisher.new.boarded ≡ true }
-    // One was made and posted, or it was skipped for a fault that is told of this engine.
+    // One was made and posted, or it was skipped for two faults that are told of this engine, one of each time that it was refused.
     ensures turn { HasTurn S.Store (C.tells clock.now) engine.old engine.new publisher.old.posted publisher.new.posted
         publisher.old.skipped publisher.new.skipped }
     ensures posts { Posts S.Store (C.tells clock.now) engine.new publisher.old.posted publisher.new.posted }
@@ -133,13 +133,14 @@ fn post_board<S: Alter, B: Room, R: Wait, C: Clock>(
     ensures ended { publisher.new.ended ≡ publisher.old.ended }
     ensures grows { IsBefore publisher.old publisher.new }
 {
-    if try_board(rt, engine, publisher, clock).is_ok() {
+    let Err(first) = try_board(rt, engine, publisher, clock) else {
         return;
-    }
-    match try_board(rt, engine, publisher, clock) {
-        Ok(()) => {}
-        Err(fault) => publisher.skip(rt, &fault),
-    }
+    };
+    let Err(last) = try_board(rt, engine, publisher, clock) else {
+        return;
+    };
+    publisher.skip(rt, &first);
+    publisher.skip(rt, &last);
 }
 
 /// Answers what is submitted until the hub is closed and nothing waits, or a batch halts the engine. A board is posted first and
@@ -260,8 +261,8 @@ pub fn serve<S: Alter, B: Room, R: Wait + time::Clock, C: Clock>(
     ensures served { MatchResult result
         (λ _. HasServed S.Store engine.old engine.new publisher.old.refused publisher.new.refused [])
         (λ _. (waiting : List ATaken) × HasServed S.Store engine.old engine.new publisher.old.refused publisher.new.refused waiting) }
-    // A board was asked for before each batch, and behind the last one that doesn't halt the engine: it was posted, or there was none for
-    // E01, E85 of an engine that had halted, or E80, and that for no more times than the store has failed, if nothing else holds it back.
+    // A board was asked for before each batch, and behind the last one that doesn't halt the engine: it was posted, or it was refused twice,
+    // for E01, E85 of an engine that had halted, or E80, and that no more often than the store has failed, if nothing else holds it back.
     // Each such fault is one that the publisher was told of, so an E01 is one that an allocator has answered. Behind a fault that ends
     // serving there is no board, for that one.
     ensures boards { MatchResult result

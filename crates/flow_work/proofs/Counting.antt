@@ -136,7 +136,7 @@ of_later k m same later c t is =
     let x : Taken = record { ticket = t.number; command = c } in
     (is.0 ∙ same, subst (λ (l : List Taken). slice_get l t.number ≡ Some x) later.asked.1 (get_front k.was.asked later.asked.0 t.number x is.1))
 
-pending_later : (reads : List ℕ → Option Command) (tells : ℕ → Type 0) (k m : Member) → k.id ≡ m.id → IsBefore k.was m.was → (bytes : List ℕ) (p : Pending) → IsPendingOf reads tells k bytes p → IsPendingOf reads tells m bytes p
+pub pending_later : (reads : List ℕ → Option Command) (tells : ℕ → Type 0) (k m : Member) → k.id ≡ m.id → IsBefore k.was m.was → (bytes : List ℕ) (p : Pending) → IsPendingOf reads tells k bytes p → IsPendingOf reads tells m bytes p
 pending_later reads tells k m same later bytes (pending.Submitted t) w =
     record { command = w.command; at = w.at; told = w.told; is = w.is; ticket = of_later k m same later (command_at w.command w.at) t w.ticket }
 pending_later reads tells k m same later bytes (pending.Known line) w = w

@@ -1,4 +1,5 @@
 mod Counting
+mod Ending
 mod Failing
 mod Firing
 mod Hearing

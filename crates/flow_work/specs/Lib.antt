@@ -6,6 +6,7 @@ pub mod Hearing
 pub mod Inputs
 pub mod Moments
 pub mod Printing
+pub mod Promised
 pub mod Questions
 pub mod Reading
 pub mod Resting

@@ -1,5 +1,5 @@
 -- Why nothing is answered any more.
-use Rattle.std.specs.Prelude.{◌≡◌, ◌⊎◌, ◌<◌, ℕ, List, [], ◌∷◌, ◌++◌, true, length, Option, None}
+use Rattle.std.specs.Prelude.{◌≡◌, ◌⊎◌, ◌<◌, ◌≤◌, ℕ, List, [], ◌∷◌, ◌++◌, true, length, Option, None}
 use Rattle.flow_base.specs.declared.command.Command.{Command}
 use Rattle.flow_hub.specs.declared.fed.Fed.{Fed}
 use Rattle.flow_hub.specs.declared.known.HubFacts.{HubFacts}
@@ -53,6 +53,17 @@ abbrev pub EndsTaking : (List ℕ → Option Command) → (ℕ → Type 0) → M
 EndsTaking reads tells m ps n given =
     ((before : List InputMessage) × (last : InputMessage) × (given ≡ before ++ last ∷ []) × IsOver last ps n) ⊎ Quits reads tells m
 
+-- It is no line; where the input can't be read the status is 3.
+abbrev pub IsNoLine : InputMessage → ℕ → Type 0
+IsNoLine (input.Line line) n = ⊥
+IsNoLine input.Ended n = Unit {0}
+IsNoLine input.Failed n = n ≡ 3
+IsNoLine input.Stopped n = Unit {0}
+
+-- What was given last is no line; or nothing is answered any more.
+abbrev pub HasEnded : (List ℕ → Option Command) → (ℕ → Type 0) → Member → ℕ → List InputMessage → Type 0
+HasEnded reads tells m n given = ((before : List InputMessage) × (last : InputMessage) × (given ≡ before ++ last ∷ []) × IsNoLine last n) ⊎ Quits reads tells m
+
 -- The oldest of these lines waits no more.
 abbrev pub IsFewer : (was now : List Pending) → Type 0
 IsFewer [] now = now ≡ []
@@ -61,6 +72,10 @@ IsFewer (p ∷ ps) now = now ≡ ps
 -- A line waited, and the oldest has its answer.
 abbrev pub AnswersOldest : (was now : List Pending) → Type 0
 AnswersOldest was now = (0 < length was) × IsFewer was now
+
+-- So many lines wait that no more is taken in, or nothing is there to be read.
+abbrev pub IsHeldUp : List Pending → Type 0 → Type 0
+IsHeldUp ps lacks = (64 ≤ length ps) ⊎ lacks
 
 -- What was given next is dealt with; or nothing was given, and that was done.
 abbrev pub IsStep : (was now : List InputMessage) → Type 0 → Type 0
@@ -91,3 +106,14 @@ IsShut reads tells m feed = Quits reads tells m ⊎ (feed.closed ≡ true)
 abbrev pub EndsServed : (List ℕ → Option Command) → (ℕ → Type 0) → Member → List Pending → HubFacts → ℕ → List InputMessage → Type 0
 EndsServed reads tells m ps feed n given =
     ((before : List InputMessage) × (last : InputMessage) × (given ≡ before ++ last ∷ []) × IsServed last ps feed n) ⊎ IsShut reads tells m feed
+
+-- As `IsNoLine`, and behind the end of the input all tasks are given out too.
+abbrev pub IsLast : InputMessage → HubFacts → ℕ → Type 0
+IsLast (input.Line line) feed n = ⊥
+IsLast input.Ended feed n = HasAll feed
+IsLast input.Failed feed n = HasAll feed × (n ≡ 3)
+IsLast input.Stopped feed n = Unit {0}
+
+-- What was given last is no line; or nothing is to be printed any more.
+abbrev pub HasShut : (List ℕ → Option Command) → (ℕ → Type 0) → Member → HubFacts → ℕ → List InputMessage → Type 0
+HasShut reads tells m feed n given = ((before : List InputMessage) × (last : InputMessage) × (given ≡ before ++ last ∷ []) × IsLast last feed n) ⊎ IsShut reads tells m feed

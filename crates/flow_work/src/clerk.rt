@@ -1,20 +1,20 @@
 //! The thread that submits lines and prints their replies in the order of the lines.
 ghost use Rattle.std.specs.Prelude.{◌≡◌, ◌⊎◌, ◌<◌, [], ◌∷◌, ◌++◌, ℕ, List, Option, false, length};
 ghost use Rattle.flow_lines.specs.Commands.{line_command};
-ghost use Rattle.flow_hub.specs.Knowing.{nothing};
+ghost use Rattle.flow_hub.specs.Knowing.{IsBefore, nothing};
 ghost use Rattle.flow_work.specs.Counting.{Counted, Counts, Goes, Owes};
 ghost use Rattle.flow_work.specs.Inputs.{Takes, lines_in};
+ghost use Rattle.flow_work.specs.Printing.{blank};
 ghost use Rattle.flow_work.specs.Resting.{HasRested};
-ghost use Rattle.flow_work.specs.Silence.{AnswersOldest, EndsTaking, IsFewer, IsOver, IsStep, Quits};
+ghost use Rattle.flow_work.specs.Silence.{AnswersOldest, EndsTaking, HasEnded, IsFewer, IsHeldUp, IsOver, IsStep, Quits};
 
 use crate::desk::Desk;
-use crate::giving::{Giving, Incoming};
+use crate::giving::Giving;
 use crate::input::InputMessage;
 use crate::lines::{no_lines, with_line};
 use crate::page::Page;
 use crate::progress::Progress;
 use crate::question::Accepted;
-use crossbeam_channel::Receiver;
 use flow_base::text::RawText;
 use flow_hub::seats::Room;
 use flow_hub::submitter::Submitter;
@@ -76,6 +76,10 @@ impl<B: Room, W: Write + Drop> Clerk<B, W> {
         ensures counted { (first : Option (List ℕ))
             → Counted line_command (C.tells clock.now) first nothing self.old.desk.submitter self.old.lines self.old.desk.page
             → Counted line_command (C.tells clock.now) first nothing self.new.desk.submitter self.new.lines self.new.desk.page }
+        ensures grows { IsBefore self.old.desk.submitter.was self.new.desk.submitter.was }
+        ensures same { self.new.desk.submitter.id ≡ self.old.desk.submitter.id }
+        ensures page { self.new.desk.page ≡ self.old.desk.page }
+        ensures lines { self.new.lines ≡ self.old.lines }
     {
         self.desk.rest(rt, clock, progress);
     }
@@ -190,7 +194,8 @@ impl<B: Room, W: Write + Drop> Clerk<B, W> {
             self.new.desk.page.status (G.given inputs.new) }
         // No round passes in which nothing is done.
         ensures steps { IsStep (G.given inputs.old) (G.given inputs.new)
-            (AnswersOldest self.old.desk.pending.lines.items self.new.desk.pending.lines.items) }
+            (AnswersOldest self.old.desk.pending.lines.items self.new.desk.pending.lines.items
+            × IsHeldUp self.old.desk.pending.lines.items (G.lacks inputs.new)) }
         ensures lines { self.old.lines ≡ lines_in (G.given inputs.old) → self.new.lines ≡ lines_in (G.given inputs.new) }
     {
         match self.desk.next_input(rt, inputs) {
@@ -227,19 +232,28 @@ impl<B: Room, W: Write + Drop> Clerk<B, W> {
 }
 
 /// Answers lines at a desk until the input has ended and no run is open, or nothing is answered any more.
-pub(crate) fn run_clerk<B: Room, W: Write + Drop, R: Wait + time::Clock, C: Clock, P: Write + Drop>(
+pub(crate) fn run_clerk<
+    B: Room,
+    W: Write + Drop,
+    R: Wait + time::Clock,
+    C: Clock,
+    P: Write + Drop,
+    G: Giving,
+>(
     rt: &R,
     desk: Desk<B, W>,
     clock: &C,
-    inputs: Receiver<InputMessage>,
+    inputs: &mut G,
     progress: Option<Progress<P>>,
 ) -> Answered<B, W>
     ensures owes { Owes line_command (C.tells clock.now) desk.page desk.pending.lines.items nothing nothing result.submitter result.lines result.page }
+    ensures ended { (first : Option (List ℕ)) → desk.page ≡ blank first → desk.pending.lines.items ≡ []
+        → HasEnded line_command (C.tells clock.now) result.submitter result.page.status (G.given inputs.new) }
+    ensures took { G.given inputs.old ≡ [] → result.lines ≡ lines_in (G.given inputs.new) }
     ensures rested { HasRested result.submitter.was }
 {
     let mut clerk = Clerk::new(desk);
-    let mut inputs = Incoming::new(inputs);
-    clerk.answer_lines(rt, clock, &mut inputs);
+    clerk.answer_lines(rt, clock, inputs);
     clerk.rest(rt, clock, progress);
     clerk.into_answered()
 }

@@ -3,7 +3,7 @@ ghost use Rattle.std.specs.Prelude.{◌≡◌, ◌⊎◌, ◌<◌, [], ◌∷◌
 ghost use Rattle.flow_work.specs.Counting.{Counted, Counts, Goes, is_open, is_task};
 ghost use Rattle.flow_work.specs.Inputs.{Takes, lines_in};
 ghost use Rattle.flow_work.specs.Questions.{line_served};
-ghost use Rattle.flow_work.specs.Silence.{AnswersOldest, EndsServed, HasAll, IsServed, IsShut, IsStep, Listens, Quits};
+ghost use Rattle.flow_work.specs.Silence.{AnswersOldest, EndsServed, HasAll, IsHeldUp, IsServed, IsShut, IsStep, Listens, Quits};
 
 use crate::desk::Desk;
 use crate::giving::Giving;
@@ -246,8 +246,8 @@ impl<B: Room, W: Write + Drop> Counter<B, W> {
             self.new.feed self.new.desk.page.status (G.given inputs.new) }
         // No round passes in which nothing is done.
         ensures steps { IsStep (G.given inputs.old) (G.given inputs.new)
-            (AnswersOldest self.old.desk.pending.lines.items self.new.desk.pending.lines.items
-            ⊎ Listens self.old.feed self.new.feed) }
+            ((AnswersOldest self.old.desk.pending.lines.items self.new.desk.pending.lines.items
+            ⊎ Listens self.old.feed self.new.feed) × IsHeldUp self.old.desk.pending.lines.items (G.lacks inputs.new)) }
         ensures lines { self.old.lines ≡ lines_in (G.given inputs.old) → self.new.lines ≡ lines_in (G.given inputs.new) }
     {
         match self.desk.ready_input(rt, inputs) {

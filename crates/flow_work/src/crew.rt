@@ -1,29 +1,29 @@
 //! The threads that a running engine starts. Each owns all that it has.
 ghost use Rattle.std.specs.Prelude.{◌≡◌, [], IfErr, IfOk, is_some};
-ghost use Rattle.flow_lines.specs.Commands.{line_command};
-ghost use Rattle.flow_hub.specs.Knowing.{nothing};
 ghost use Rattle.flow_pool.specs.Ends.{known_by, taken_by};
 ghost use Rattle.flow_pool.specs.Reports.{MayCome, is_left};
-ghost use Rattle.flow_work.specs.Counting.{Owes};
+ghost use Rattle.flow_work.specs.Promised.{OwesReplies};
 ghost use Rattle.flow_work.specs.Working.{HasFired, HasHanded, HasHandedOn, HasWorked};
 
 use crate::clerk::{Answered, run_clerk};
 use crate::desk::Desk;
+use crate::giving::Giving;
 use crate::handing::{Handing, Ringing};
 use crate::input::{InputMessage, Taking, read_lines};
 use crate::owing::{
-    Closing, Dispatching, LastRead, OwedLines, OwedTasks, OwedTicks, OwedWork, ReadingLines,
-    Timing, Worked, Working, last_read, worked_by,
+    Closing, Dispatching, LastSeen, OwedLines, OwedTasks, OwedTicks, OwedWork, ReadingLines,
+    Timing, Worked, Working, last_seen,
 };
 use crate::progress::Progress;
 use crate::reports::Reporter;
+use crate::starting::{start_closing, start_seen};
 use crate::tasks::Tasks;
 use crate::timer::fire_timers;
 use crate::unknown::Stranger;
-use crossbeam_channel::{Receiver, Sender};
+use crossbeam_channel::Sender;
 use crossbeam_utils::sync::WaitGroup;
 use flow_base::fault::Fault;
-use flow_hub::hub::Hub;
+use flow_hub::hub::{Hub, SeenClosed};
 use flow_hub::seats::Room;
 use flow_pool::activity::Activity;
 use flow_pool::dispatcher::dispatcher;
@@ -49,11 +49,11 @@ fn run_worker<B: Room, R: Wait + time::Clock, A: Activity + Drop, C: Clock, P: W
     group: WaitGroup,
 ) -> Worked<B>
     ensures { HasWorked (C.tells clock.now) (MayCome A.named A.gives activities.items)
-        (is_left (is_some unknown.names) A.named activities.items) (taken_by receiver) (known_by result.receiver.value) reports.told
-        result.reports.value.told }
+        (is_left (is_some unknown.names) A.named activities.items) (taken_by receiver) (known_by result.source.value) reports.told
+        result.target.value.told }
 {
     let (end, told) = worker(rt, alloc, activities, receiver, reports, unknown, clock);
-    let worked = worked_by(&end, &told);
+    let worked = last_seen(&end, &told);
     drop(end);
     drop(told);
     drop(group);
@@ -98,12 +98,12 @@ fn run_reader<R: Wait, I: BufRead + Drop, T: Taking>(
     alloc: Global,
     reader: I,
     taking: T,
-) -> LastRead<I, T>
-    ensures { HasHandedOn (T.gone result.taking.value) (I.remaining reader) (I.remaining result.reader.value) (T.taken taking)
-        (T.taken result.taking.value) }
+) -> LastSeen<I, T>
+    ensures { HasHandedOn (T.gone result.target.value) (I.remaining reader) (I.remaining result.source.value) (T.taken taking)
+        (T.taken result.target.value) }
 {
     let (reader_left, taking_left) = read_lines(rt, alloc, reader, taking);
-    let read = last_read(&reader_left, &taking_left);
+    let read = last_seen(&reader_left, &taking_left);
     drop(reader_left);
     drop(taking_left);
     read
@@ -111,42 +111,46 @@ fn run_reader<R: Wait, I: BufRead + Drop, T: Taking>(
 
 /// All that the thread has that answers lines.
 #[derive(Drop)]
-pub(crate) struct Answerer<B: Room, W: Write, P: Write> {
+pub(crate) struct Answerer<B: Room, W: Write, P: Write, G> {
     pub(crate) desk: Desk<B, W>,
-    pub(crate) inputs: Receiver<InputMessage>,
+    pub(crate) inputs: G,
     pub(crate) hub: Arc<Hub<B>, Global>,
     pub(crate) progress: Option<Progress<P>>,
 }
 
-/// What the thread began with that answers lines. Behind its end it has printed a reply for each line that it took in, in their order.
+/// What the thread began with that answers lines. Behind its end it has printed a reply for each line that it took in, in their order; no
+/// line comes any more, or nothing is answered; and no run is open.
 #[derive(Drop)]
-pub(crate) struct OwedReplies<B: Room, W: Write, C> {
+pub(crate) struct OwedReplies<B: Room, W: Write, C, G> {
     pub(crate) desk: Snapshot<Desk<B, W>>,
     pub(crate) clock: Snapshot<C>,
+    pub(crate) inputs: Snapshot<G>,
 }
 
-impl<B: Room, W: Write, C: Clock> Promise<Closing<B, Answered<B, W>>> for OwedReplies<B, W, C> {
-    ghost use Rattle.flow_lines.specs.Commands.{line_command};
-    ghost use Rattle.flow_hub.specs.Knowing.{nothing};
-    ghost use Rattle.flow_work.specs.Counting.{Owes};
+impl<B: Room, W: Write, C: Clock, G: Giving> Promise<Closing<Answered<B, W>, SeenClosed<B>, G>>
+    for OwedReplies<B, W, C, G> {
+    ghost use Rattle.flow_work.specs.Promised.{OwesReplies};
 
-    ghost kept_by = { λ p r. Owes line_command (C.tells p.clock.value) p.desk.value.page p.desk.value.pending.lines.items nothing nothing r.left.submitter r.left.lines r.left.page };
+    ghost kept_by = { λ p r. OwesReplies (C.tells p.clock.value) p.desk.value.page p.desk.value.pending.lines.items (G.given p.inputs.value) (G.given r.inputs.value) r.left.submitter r.left.lines r.left.page };
 }
 
 /// A thread that answers lines.
-pub(crate) type Answering<B, W, C> = PromisedHandle<
-    Closing<B, Answered<B, W>>,
-    OwedReplies<B, W, C>,
+pub(crate) type Answering<B, W, C, G> = PromisedHandle<
+    Closing<Answered<B, W>, SeenClosed<B>, G>,
+    OwedReplies<B, W, C, G>,
 >;
 
 /// Answers lines until the input has ended and no run is open, and then closes the hub.
-fn run_desk<B: Room, W: Write + Drop, R: Wait + time::Clock, C: Clock, P: Write + Drop>(
-    rt: &R,
-    answerer: Answerer<B, W, P>,
-    clock: &C,
-) -> Closing<B, Answered<B, W>>
-    ensures { Owes line_command (C.tells clock.now) answerer.desk.page answerer.desk.pending.lines.items nothing nothing
-        result.left.submitter result.left.lines result.left.page }
+fn run_desk<
+    B: Room,
+    W: Write + Drop,
+    R: Wait + time::Clock,
+    C: Clock,
+    P: Write + Drop,
+    G: Giving + Drop,
+>(rt: &R, answerer: Answerer<B, W, P, G>, clock: &C) -> Closing<Answered<B, W>, SeenClosed<B>, G>
+    ensures { OwesReplies (C.tells clock.now) answerer.desk.page answerer.desk.pending.lines.items (G.given answerer.inputs)
+        (G.given result.inputs.value) result.left.submitter result.left.lines result.left.page }
 {
     let Answerer {
         desk,
@@ -154,11 +158,17 @@ fn run_desk<B: Room, W: Write + Drop, R: Wait + time::Clock, C: Clock, P: Write 
         hub,
         progress,
     } = answerer;
-    let answered = run_clerk(rt, desk, clock, inputs, progress);
-    let seen = hub.close(rt);
+    let mut inputs = inputs;
+    let answered = run_clerk(rt, desk, clock, &mut inputs, progress);
+    let given = Snapshot::of(&inputs);
+    drop(inputs);
+    let closed = hub.close(rt);
+    let seen = Snapshot::of(&closed);
+    drop(closed);
     Closing {
         left: answered,
         seen,
+        inputs: given,
     }
 }
 
@@ -191,7 +201,7 @@ where
         unknown: Snapshot::of(&unknown),
         clock: Snapshot::of(&clock),
     };
-    match thread::spawn_with(
+    match start_seen(
         rt,
         owed,
         move || run_worker(
@@ -199,7 +209,7 @@ where
         ),
     ) {
         Ok(thread) => Ok(thread),
-        Err(refused) => Err(Fault::from(AllocError::from(refused))),
+        Err(fault) => Err(fault),
     }
 }
 
@@ -317,27 +327,30 @@ where
 }
 
 /// Starts the thread that answers lines. E01 where there is none.
-pub(crate) fn start_desk<B, R, W, C, P>(
+pub(crate) fn start_desk<B, R, W, C, P, G>(
     rt: &R,
-    answerer: Answerer<B, W, P>,
+    answerer: Answerer<B, W, P, G>,
     clock: C,
-) -> Result<Answering<B, W, C>, Fault>
+) -> Result<Answering<B, W, C, G>, Fault>
 where
     B: Room + Send + Sync + 'static,
     R: Threads + Wait + time::Clock + Copy + Send + Drop + 'static,
     W: Write + Drop + Send + 'static,
     C: Clock + Copy + Send + Drop + 'static,
     P: Write + Drop + Send + 'static,
-    ensures owed { IfOk result (λ h. (h.promise.desk.value ≡ answerer.desk) × (h.promise.clock.value ≡ clock)) }
+    G: Giving + Drop + Send + 'static,
+    ensures owed { IfOk result (λ h. (h.promise.desk.value ≡ answerer.desk) × (h.promise.clock.value ≡ clock)
+        × (h.promise.inputs.value ≡ answerer.inputs)) }
     ensures refused { IfErr result (λ f. f ≡ Fault.NoMemory _) }
 {
     let its = *rt;
     let owed = OwedReplies {
         desk: Snapshot::of(&answerer.desk),
         clock: Snapshot::of(&clock),
+        inputs: Snapshot::of(&answerer.inputs),
     };
-    match thread::spawn_with(rt, owed, move || run_desk(&its, answerer, &clock)) {
+    match start_closing(rt, owed, move || run_desk(&its, answerer, &clock)) {
         Ok(thread) => Ok(thread),
-        Err(refused) => Err(Fault::from(AllocError::from(refused))),
+        Err(fault) => Err(fault),
     }
 }

@@ -8,7 +8,7 @@ ghost use Rattle.flow_work.specs.Printing.{blank};
 ghost use Rattle.flow_work.specs.Questions.{read_as};
 ghost use Rattle.flow_work.specs.Reading.{IsOf, IsPendingOf};
 ghost use Rattle.flow_work.specs.Resting.{HasRested};
-ghost use Rattle.flow_work.specs.Silence.{IsSilent};
+ghost use Rattle.flow_work.specs.Silence.{IsHeldUp, IsSilent};
 ghost use Rattle.flow_work.specs.Telling.{AnswersFirst, HasTold, IsAnswer, PrintsAnswer};
 ghost use Rattle.flow_work.specs.declared.queue.Pending.{Pending as APending};
 
@@ -262,6 +262,7 @@ impl<B: Room, W: Write + Drop> Desk<B, W> {
     }
 
     /// What is read next. None where there is nothing yet and a reply can be waited for meanwhile.
+    #[tactic(auto, using(crate::proofs::Silence::held_by_none, crate::proofs::Silence::held_by_room))]
     pub(crate) fn next_input<R: Wait, G: Giving>(
         &self,
         rt: &R,
@@ -270,6 +271,7 @@ impl<B: Room, W: Write + Drop> Desk<B, W> {
         ensures room { IfSome result (λ _. length self.now.pending.lines.items < 64) }
         // Where nothing waits for a reply it waits for what is read.
         ensures waits { IfNone result (0 < length self.now.pending.lines.items) }
+        ensures held { IfNone result (IsHeldUp self.now.pending.lines.items (G.lacks inputs.new)) }
         ensures given { MatchOption result (G.given inputs.new ≡ G.given inputs.old)
             (λ i. G.given inputs.new ≡ G.given inputs.old ++ i ∷ []) }
     {
@@ -284,12 +286,14 @@ impl<B: Room, W: Write + Drop> Desk<B, W> {
     }
 
     /// What is read next, if it is there and room is left for what waits for a reply.
+    #[tactic(auto, using(crate::proofs::Silence::held_by_none, crate::proofs::Silence::held_by_room))]
     pub(crate) fn ready_input<R: Wait, G: Giving>(
         &self,
         rt: &R,
         inputs: &mut G,
     ) -> Option<InputMessage>
         ensures room { IfSome result (λ _. length self.now.pending.lines.items < 64) }
+        ensures held { IfNone result (IsHeldUp self.now.pending.lines.items (G.lacks inputs.new)) }
         ensures given { MatchOption result (G.given inputs.new ≡ G.given inputs.old)
             (λ i. G.given inputs.new ≡ G.given inputs.old ++ i ∷ []) }
     {

@@ -10,11 +10,14 @@ use unseen::Listed;
 
 /// Gives what comes of the input, one after the other.
 pub trait Giving {
-    ghost use Rattle.std.specs.Prelude.{◌≡◌, [], ◌∷◌, ◌++◌, List, MatchOption};
+    ghost use Rattle.std.specs.Prelude.{◌≡◌, [], ◌∷◌, ◌++◌, IfNone, List, MatchOption};
     ghost use Rattle.flow_work.specs.declared.input.InputMessage.{InputMessage};
 
     /// All that it gave, for contracts alone.
     ghost given: { Self → List InputMessage };
+
+    /// It was asked for what is there, and nothing was, for contracts alone.
+    ghost lacks: { Self → Type 0 };
 
     /// Waits for what comes next.
     fn next<R: Wait>(&mut self, rt: &R) -> InputMessage
@@ -22,7 +25,8 @@ pub trait Giving {
 
     /// What comes next, if it is there.
     fn ready<R: Wait>(&mut self, rt: &R) -> Option<InputMessage>
-        ensures { MatchOption result (given self.new ≡ given self.old) (λ i. given self.new ≡ given self.old ++ i ∷ []) };
+        ensures given { MatchOption result (given self.new ≡ given self.old) (λ i. given self.new ≡ given self.old ++ i ∷ []) }
+        ensures lacks { IfNone result (lacks self.new) };
 }
 
 /// The end of the channel of what is read, and what it gave.
@@ -45,6 +49,9 @@ impl Incoming {
 
 impl Giving for Incoming {
     ghost given = { λ g. g.given };
+
+    // Of a channel that gives nothing no clause says why.
+    ghost lacks = { λ _. Unit {0} };
 
     fn next<R: Wait>(&mut self, rt: &R) -> InputMessage {
         let input = self.receiver.recv(rt).unwrap_or(InputMessage::Stopped);

@@ -23,6 +23,7 @@ pub mod serving;
 pub mod settings;
 pub mod shown;
 pub mod skills;
+pub mod starting;
 pub mod status;
 pub mod tally;
 pub mod tasks;

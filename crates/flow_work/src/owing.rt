@@ -6,7 +6,6 @@ use crate::input::Taking;
 use crate::reports::Reporter;
 use crate::tasks::Tasks;
 use crate::unknown::Stranger;
-use flow_hub::hub::SeenClosed;
 use flow_hub::seats::Room;
 use flow_pool::activity::Activity;
 use flow_pool::ends::TaskReceiver;
@@ -15,30 +14,36 @@ use std::io::{BufRead, Write};
 use std::snapshot::Snapshot;
 use std::thread::{Promise, PromisedHandle};
 
-/// What is left of a thread that closes the hub at its end, and what it saw then. Nothing but closing the hub gives that.
+/// What is left of a thread that answers lines and closes the hub at its end, and what it saw then: nothing but closing the hub gives
+/// what that is taken of.
 #[derive(Drop)]
-pub(crate) struct Closing<B: Room, T> {
+pub(crate) struct Closing<T, S, G> {
     pub(crate) left: T,
-    pub(crate) seen: SeenClosed<B>,
+    pub(crate) seen: Snapshot<S>,
+    /// What gave it the lines, as it was at its end, for contracts alone.
+    pub(crate) inputs: Snapshot<G>,
 }
 
-/// What a worker had at its end, for contracts alone.
+/// What a thread had at its end that takes from one thing and gives to another, for contracts alone.
 #[derive(Drop)]
-pub(crate) struct Worked<B: Room> {
-    pub(crate) receiver: Snapshot<TaskReceiver>,
-    pub(crate) reports: Snapshot<Reporter<B>>,
+pub(crate) struct LastSeen<A, Z> {
+    pub(crate) source: Snapshot<A>,
+    pub(crate) target: Snapshot<Z>,
 }
 
 /// What these are now.
-pub(crate) fn worked_by<B: Room>(receiver: &TaskReceiver, reports: &Reporter<B>) -> Worked<B>
-    ensures receiver { result.receiver.value ≡ receiver.now }
-    ensures reports { result.reports.value ≡ reports.now }
+pub(crate) fn last_seen<A, Z>(source: &A, target: &Z) -> LastSeen<A, Z>
+    ensures source { result.source.value ≡ source.now }
+    ensures target { result.target.value ≡ target.now }
 {
-    Worked {
-        receiver: Snapshot::of(receiver),
-        reports: Snapshot::of(reports),
+    LastSeen {
+        source: Snapshot::of(source),
+        target: Snapshot::of(target),
     }
 }
+
+/// What a worker had: where its tasks came from, and whom it reported to.
+pub(crate) type Worked<B> = LastSeen<TaskReceiver, Reporter<B>>;
 
 /// What a worker began with. At its end it has made an attempt of each task that it took, and has reported it.
 #[derive(Drop)]
@@ -56,7 +61,7 @@ impl<B: Room, A: Activity, C: Clock, P: Write> Promise<Worked<B>> for OwedWork<B
     ghost use Rattle.flow_pool.specs.Reports.{MayCome, is_left};
     ghost use Rattle.flow_work.specs.Working.{HasWorked};
 
-    ghost kept_by = { λ p r. HasWorked (C.tells p.clock.value) (MayCome A.named A.gives p.activities.value.items) (is_left (is_some p.unknown.value.names) A.named p.activities.value.items) (taken_by p.receiver.value) (known_by r.receiver.value) p.reports.value.told r.reports.value.told };
+    ghost kept_by = { λ p r. HasWorked (C.tells p.clock.value) (MayCome A.named A.gives p.activities.value.items) (is_left (is_some p.unknown.value.names) A.named p.activities.value.items) (taken_by p.receiver.value) (known_by r.source.value) p.reports.value.told r.target.value.told };
 }
 
 /// A thread that makes attempts.
@@ -93,24 +98,6 @@ impl<B: Room, C: Clock> Promise<Snapshot<Reporter<B>>> for OwedTicks<B, C> {
 /// A thread that fires what is due.
 pub(crate) type Timing<B, C> = PromisedHandle<Snapshot<Reporter<B>>, OwedTicks<B, C>>;
 
-/// What the thread had at its end that reads, for contracts alone.
-#[derive(Drop)]
-pub(crate) struct LastRead<I, T> {
-    pub(crate) reader: Snapshot<I>,
-    pub(crate) taking: Snapshot<T>,
-}
-
-/// What these are now.
-pub(crate) fn last_read<I, T>(reader: &I, taking: &T) -> LastRead<I, T>
-    ensures reader { result.reader.value ≡ reader.now }
-    ensures taking { result.taking.value ≡ taking.now }
-{
-    LastRead {
-        reader: Snapshot::of(reader),
-        taking: Snapshot::of(taking),
-    }
-}
-
 /// What the thread began with that reads. At its end it has handed on what it read.
 #[derive(Drop)]
 pub(crate) struct OwedLines<I, T> {
@@ -118,11 +105,11 @@ pub(crate) struct OwedLines<I, T> {
     pub(crate) taking: Snapshot<T>,
 }
 
-impl<I: BufRead, T: Taking> Promise<LastRead<I, T>> for OwedLines<I, T> {
+impl<I: BufRead, T: Taking> Promise<LastSeen<I, T>> for OwedLines<I, T> {
     ghost use Rattle.flow_work.specs.Working.{HasHandedOn};
 
-    ghost kept_by = { λ p r. HasHandedOn (T.gone r.taking.value) (I.remaining p.reader.value) (I.remaining r.reader.value) (T.taken p.taking.value) (T.taken r.taking.value) };
+    ghost kept_by = { λ p r. HasHandedOn (T.gone r.target.value) (I.remaining p.reader.value) (I.remaining r.source.value) (T.taken p.taking.value) (T.taken r.target.value) };
 }
 
 /// A thread that reads.
-pub(crate) type ReadingLines<I, T> = PromisedHandle<LastRead<I, T>, OwedLines<I, T>>;
+pub(crate) type ReadingLines<I, T> = PromisedHandle<LastSeen<I, T>, OwedLines<I, T>>;

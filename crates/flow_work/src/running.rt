@@ -1,6 +1,7 @@
 //! A running engine: the threads around the one that serves.
-ghost use Rattle.std.specs.Prelude.{◌≡◌, ◌≤◌, [], length, IfOk, IfErr, OnOk};
+ghost use Rattle.std.specs.Prelude.{◌≡◌, ◌≤◌, false, [], length, IfOk, IfErr, OnOk};
 ghost use Rattle.flow_hub.specs.Knowing.{IsBefore, IsSamePart, nothing};
+ghost use Rattle.flow_hub.specs.Publishing.{IsDone};
 ghost use Rattle.flow_hub.specs.Seating.{IsRoomOf};
 ghost use Rattle.flow_engine.specs.Answering.{Follows};
 ghost use Rattle.flow_work.specs.Endings.{EndsServing, HasRun, HasServedAll};
@@ -11,6 +12,7 @@ use crate::clerk::Answered;
 use crate::crew::{Answerer, Answering, start_desk, start_reader, start_timer};
 use crate::desk::Desk;
 use crate::ended::Ended;
+use crate::giving::Incoming;
 use crate::handing::Handing;
 use crate::input::InputMessage;
 use crate::owing::{Closing, Dispatching, ReadingLines, Timing, Working};
@@ -25,7 +27,7 @@ use crossbeam_utils::sync::WaitGroup;
 use flow_base::fault::Fault;
 use flow_engine::engine::Engine;
 use flow_hub::feed::Feed;
-use flow_hub::hub::Hub;
+use flow_hub::hub::{Hub, SeenClosed};
 use flow_hub::publisher::Publisher;
 use flow_hub::seats::{Opened, Room};
 use flow_hub::submitter::Submitter;
@@ -83,7 +85,7 @@ pub(crate) fn open_lines<B: Room, R: Wait>(
 
 /// Who answers lines, the end by which it is told that no line is answered any more, and who reads.
 type Telling<B, I, W, C> = (
-    Answering<B, W, C>,
+    Answering<B, W, C, Incoming>,
     Sender<InputMessage>,
     ReadingLines<I, Handing>,
 );
@@ -121,6 +123,7 @@ where
         × (r.0.promise.desk.value.pending.lines.items ≡ [])) }
     ensures owed { IfOk result (λ r. r.0.promise.clock.value ≡ clock) }
     ensures reads { IfOk result (λ r. r.2.promise.reader.value ≡ reader) }
+    ensures given { IfOk result (λ r. r.0.promise.inputs.value.given ≡ []) }
     ensures refused { IfErr result (λ f. f ≡ Fault.NoMemory _) }
 {
     let Opening {
@@ -133,7 +136,7 @@ where
     } = opening;
     let answerer = Answerer {
         desk: Desk::new(alloc, submitter, pending, writer),
-        inputs,
+        inputs: Incoming::new(inputs),
         hub,
         progress,
     };
@@ -294,7 +297,7 @@ fn feed_back<B: Room, R: Threads, A: Activity, C: Clock, P: Write>(
 fn ended_with<B: Room, R: Wait, W: Write + Drop>(
     rt: &R,
     publisher: &mut Publisher<B>,
-    answered: Closing<B, Answered<B, W>>,
+    answered: Closing<Answered<B, W>, SeenClosed<B>, Incoming>,
     feed: Feed<B>,
     served: Result<(), Fault>,
 ) -> Ended<W>
@@ -303,7 +306,11 @@ fn ended_with<B: Room, R: Wait, W: Write + Drop>(
     ensures submitter { IsBefore answered.left.submitter.was publisher.new }
     ensures part { IsSamePart publisher.old publisher.new }
 {
-    let Closing { left, seen: _seen } = answered;
+    let Closing {
+        left,
+        seen: _seen,
+        inputs: _inputs,
+    } = answered;
     let Answered {
         page,
         submitter,
@@ -431,6 +438,9 @@ pub(crate) fn serve_new<S: Alter, B: Room, R: Wait + time::Clock, C: Clock>(
     ensures served { OnOk result (HasServedAll S.Store engine.old engine.new) }
     ensures ends { IfErr result (EndsServing S.Store engine.old engine.new) }
     ensures hub { ServedBy S.Store (C.tells clock.now) engine.old engine.new publisher.new }
+    // All that was submitted is answered and the hub is closed, on Ok by somebody who has the hub.
+    ensures done { IsDone publisher.new }
+    ensures closed { OnOk result (publisher.new.ended ≡ false) }
     ensures goes_on { OnOk result (engine.new.halted ≡ engine.old.halted) }
     ensures found { engine.new.found ≡ engine.old.found }
     ensures follows { Follows S.Store engine.old engine.new }

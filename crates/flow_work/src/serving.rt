@@ -11,6 +11,7 @@ use crate::counter::Told;
 use crate::crew::start_ringing;
 use crate::desk::Desk;
 use crate::ended::{Ended, Served};
+use crate::giving::Incoming;
 use crate::handing::Ringing;
 use crate::input::InputMessage;
 use crate::owing::{Closing, ReadingLines, Timing};
@@ -22,7 +23,7 @@ use crossbeam_utils::sync::WaitGroup;
 use flow_base::fault::Fault;
 use flow_engine::engine::Engine;
 use flow_hub::feed::Feed;
-use flow_hub::hub::Hub;
+use flow_hub::hub::{Hub, SeenClosed};
 use flow_hub::publisher::Publisher;
 use flow_hub::seats::{Opened, Room};
 use flow_settings::settings::Settings;
@@ -79,7 +80,7 @@ where
 /// Who answers lines and prints tasks, the end by which it is told that no line is answered any more, who reads, and who fires what is
 /// due.
 type Telling<B, I, W, C> = (
-    PromisedHandle<Closing<B, Told<B, W>>, Owed<B, W, C>>,
+    PromisedHandle<Closing<Told<B, W>, SeenClosed<B>, Incoming>, Owed<B, W, C, Incoming>>,
     Sender<InputMessage>,
     ReadingLines<I, Ringing<B>>,
     Timing<B, C>,
@@ -101,6 +102,7 @@ where
     W: Write + Drop + Send + 'static,
     C: Clock + Copy + Send + Drop + 'static,
     requires none { (supplies.opening.pending.lines.items ≡ []) × (supplies.feed ≡ nothing) }
+    ensures given { IfOk result (λ r. r.0.promise.inputs.value.given ≡ []) }
     ensures page { IfOk result (λ r. (r.0.promise.desk.value.page ≡ blank (W.contents writer))
         × (r.0.promise.desk.value.pending.lines.items ≡ [])) }
     ensures owed { IfOk result (λ r. (r.0.promise.feed.value ≡ nothing) × (r.0.promise.clock.value ≡ clock)) }
@@ -125,7 +127,7 @@ where
     let teller = Teller {
         desk,
         feed,
-        inputs,
+        inputs: Incoming::new(inputs),
         hub,
     };
     let reading = start_ringing(rt, alloc, reader, lines, its_hub)?;
@@ -163,7 +165,7 @@ where
 fn taken_back<B: Room, R: Wait, W: Write + Drop>(
     rt: &R,
     publisher: &mut Publisher<B>,
-    told: Closing<B, Told<B, W>>,
+    told: Closing<Told<B, W>, SeenClosed<B>, Incoming>,
     served: Result<(), Fault>,
 ) -> Served<W>
     ensures served { result.ended.served ≡ served }
@@ -175,7 +177,11 @@ fn taken_back<B: Room, R: Wait, W: Write + Drop>(
     ensures feed { IsBefore told.left.feed publisher.new }
     ensures part { IsSamePart publisher.old publisher.new }
 {
-    let Closing { left, seen: _seen } = told;
+    let Closing {
+        left,
+        seen: _seen,
+        inputs: _inputs,
+    } = told;
     let Told {
         page,
         submitter,

@@ -1,4 +1,5 @@
-use Rattle.std.proofs.Common.{[]}
+use Rattle.std.proofs.Common.{[], ap, ◌∙◌}
+use Rattle.flow_hub.specs.declared.known.HubFacts.{HubFacts}
 use Rattle.flow_serve.proofs.Living.{together_new}
 use Rattle.flow_work.proofs.Served.{ends_serving, served_all, served_on}
 use Rattle.flow_work.proofs.running.serve_new.Goals as goal
@@ -42,3 +43,13 @@ returns-in-Ok-clause-follows g c = c.serve.ensures.follows
 
 pub returns-in-Err-clause-follows : goal.returns-in-Err-clause-follows
 returns-in-Err-clause-follows g c = c.serve.ensures.follows
+
+pub returns-in-Ok-clause-done : goal.returns-in-Ok-clause-done
+returns-in-Ok-clause-done g c = c.serve.ensures.done
+
+pub returns-in-Err-clause-done : goal.returns-in-Err-clause-done
+returns-in-Err-clause-done g c = c.serve.ensures.done
+
+-- a publisher that is new hasn't closed it
+pub returns-in-Ok-clause-closed : goal.returns-in-Ok-clause-closed
+returns-in-Ok-clause-closed g c = c.in-Ok.ensures.closed ∙ ap (λ (k : HubFacts). k.ended) c.requires.nothing

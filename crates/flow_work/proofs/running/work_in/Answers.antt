@@ -20,7 +20,7 @@ returns-in-Ok-clause-printed g c =
     let first = g.W.Write.contents c.args.writer in
     let answered = c.join-answered.result.left in
     let after = c.ended_with in
-    let counted = c.join-answered.ensures.counted first c.in-Ok.ensures.page.0 c.in-Ok.ensures.page.1 refl in
+    let counted = c.join-answered.ensures.owes.counted first c.in-Ok.ensures.page.0 c.in-Ok.ensures.page.1 refl in
     let now : Counted line_command tells first nothing answered.submitter answered.lines answered.page = subst (λ (k : g.row.C.Denot). Counted line_command (g.C.Clock.tells k) first nothing answered.submitter answered.lines answered.page) c.in-Ok.ensures.owed counted in
     prints g.S.Store tells c.args.engine.now c.serve_new-served.new.engine first (g.W.Write.contents after.result.writer) after.result.status answered.lines c.serve_new-served.new.publisher after.new.publisher answered.submitter answered.page now
     c.serve_new-served.ensures.hub after.ensures.part after.ensures.submitter after.ensures.printed.0 after.ensures.printed.1

@@ -14,7 +14,7 @@ returns-in-Ok-clause-shown g c =
     let told = c.join-told.result.left in
     let after = c.taken_back in
     let printed = after.result in
-    let counted = c.join-told.ensures.counted first c.in-Ok.ensures.page.0 c.in-Ok.ensures.page.1 c.in-Ok.ensures.owed.0 in
+    let counted = c.join-told.ensures.owes.counted first c.in-Ok.ensures.page.0 c.in-Ok.ensures.page.1 c.in-Ok.ensures.owed.0 in
     let now : Counted line_served tells first told.feed told.submitter told.lines told.page = subst (λ (k : g.row.C.Denot). Counted line_served (g.C.Clock.tells k) first told.feed told.submitter told.lines told.page) c.in-Ok.ensures.owed.1 counted in
     shows g.S.Store tells c.args.engine.now c.serve_new-served.new.engine first (g.W.Write.contents printed.ended.writer) printed.is_mute told.lines printed.lines printed.shown told.feed c.serve_new-served.new.publisher after.new.publisher
     told.submitter told.page now c.serve_new-served.ensures.hub after.ensures.part after.ensures.submitter after.ensures.feed after.ensures.printed.0 after.ensures.printed.1 after.ensures.lines after.ensures.printed.2
@@ -30,7 +30,7 @@ returns-in-Ok-clause-status g c =
     let first = g.W.Write.contents c.args.writer in
     let told = c.join-told.result.left in
     let after = c.taken_back in
-    let counted = c.join-told.ensures.counted first c.in-Ok.ensures.page.0 c.in-Ok.ensures.page.1 c.in-Ok.ensures.owed.0 in
+    let counted = c.join-told.ensures.owes.counted first c.in-Ok.ensures.page.0 c.in-Ok.ensures.page.1 c.in-Ok.ensures.owed.0 in
     let printed = after.ensures.printed in
     subst (λ b. IsStatusOf b after.result.shown after.result.ended.status) (sym printed.1)
     (subst (λ (xs : List Shown). IsStatusOf told.page.is_mute xs after.result.ended.status) (sym printed.2)

@@ -12,3 +12,12 @@ returns-clause-counted g c =
     let new = c.rest.new.self in
     λ first k. subst (Counted line_command tells first nothing new.submitter old.lines) (sym c.rest.ensures.page)
     (counted_later line_command tells first nothing old.desk.submitter new.submitter old.lines old.desk.page c.rest.ensures.same c.rest.ensures.grows k)
+
+pub returns-clause-grows : goal.returns-clause-grows
+returns-clause-grows g c = c.rest.ensures.grows
+
+pub returns-clause-same : goal.returns-clause-same
+returns-clause-same g c = c.rest.ensures.same
+
+pub returns-clause-page : goal.returns-clause-page
+returns-clause-page g c = c.rest.ensures.page

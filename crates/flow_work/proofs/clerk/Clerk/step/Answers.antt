@@ -23,4 +23,4 @@ pub returns-in-Some-clause-steps : goal.returns-in-Some-clause-steps
 returns-in-Some-clause-steps g c = inl (c.in-Some.input, c.in-Some.ensures.given)
 
 pub returns-in-None-clause-steps : goal.returns-in-None-clause-steps
-returns-in-None-clause-steps g c = inr (c.in-None.ensures.given, (c.in-None.ensures.waits, c.tell.ensures.fewer))
+returns-in-None-clause-steps g c = inr (c.in-None.ensures.given, ((c.in-None.ensures.waits, c.tell.ensures.fewer), c.in-None.ensures.held))

@@ -25,4 +25,4 @@ pub returns-in-Some-clause-steps : goal.returns-in-Some-clause-steps
 returns-in-Some-clause-steps g c = inl (c.in-Some.input, c.in-Some.ensures.given)
 
 pub returns-in-None-clause-steps : goal.returns-in-None-clause-steps
-returns-in-None-clause-steps g c = inr (c.in-None.ensures.given, c.tell.ensures.does)
+returns-in-None-clause-steps g c = inr (c.in-None.ensures.given, (c.tell.ensures.does, c.in-None.ensures.held))
