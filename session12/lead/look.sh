@@ -1,0 +1,1 @@
+date; tail -8 /work/lanes/build.status; vmstat 2 2 | tail -1; free -g | sed -n 2p; tail -3 /work/lanes/watch.out; for i in tables hub work behaviour boards memory opening counted; do echo "$i $(git -C /work/lanes/$i log --oneline -1 2>/dev/null)"; done; ps -eo pcpu,rss,etimes,args --sort=-pcpu | awk '$1>10{print $1,int($2/1000),$3,$4,$5,$6,$7,$8,$9}' | head -16
