@@ -6,12 +6,13 @@ use Rattle.flow_base.specs.declared.fault.Fault.{Fault}
 use Rattle.flow_base.specs.declared.fault.Fault.TheVariants as fault
 use Rattle.flow_base.specs.declared.submission.Receipt.{Receipt}
 use Rattle.flow_base.specs.declared.task.Task.{Task}
+use Rattle.flow_model.specs.Answers.{IsMoreBy}
 use Rattle.flow_model.specs.Apply.{after}
 use Rattle.flow_tables.specs.Owned.{state_of}
 use Rattle.flow_commit.specs.Boards.{Boarded, IsBoardOf, IsOfBoard}
 use Rattle.flow_commit.specs.Committing.{IsDown}
 use Rattle.flow_commit.specs.Keeping.{Keeping, IsFit, logged, rules}
-use Rattle.flow_engine.specs.Counting.{IsHeldBack, IsMoreBy}
+use Rattle.flow_engine.specs.Counting.{IsHeldBack}
 use Rattle.flow_queues.specs.Posting.{HasKeys, new_ones}
 
 -- A board was posted where these tasks had been: it was made of the book that the first so many commands left which were kept since the
