@@ -317,14 +317,14 @@ impl Plans {
         true
     }
 
-    /// What there is to do at a moment; none where there is no memory.
-    fn outlook(&self, alloc: Global, at: Moment) -> Option<BookWaits>
-        ensures { IfSome result (λ v. (b : Book) → IsPlan self.now b → v ≡ outlook_of at b) }
+    /// What there is to do at a moment, and not before another; none where there is no memory.
+    fn outlook(&self, alloc: Global, since: u64, at: Moment) -> Option<BookWaits>
+        ensures { IfSome result (λ v. (b : Book) → IsPlan self.now b → v ≡ outlook_of since at b) }
     {
         let Some(first) = first_due(&self.timers, Moment::last()) else {
             return None;
         };
-        outlook_over(alloc, first, &self.tasks, self.opened, at)
+        outlook_over(alloc, first, &self.tasks, self.opened, since, at)
     }
 }
 
@@ -554,12 +554,12 @@ impl Agenda {
         }
     }
 
-    /// What the book waits for at a moment, if that is known and there is memory for the list.
-    pub fn outlook(&self, at: Moment) -> Option<BookWaits>
-        ensures { IfSome result (λ v. (b : Book) → IsOf self.now b → v ≡ outlook_of at b) }
+    /// What the book waits for at a moment, and not before another, if that is known and there is memory for the list.
+    pub fn outlook(&self, since: u64, at: Moment) -> Option<BookWaits>
+        ensures { IfSome result (λ v. (b : Book) → IsOf self.now b → v ≡ outlook_of since at b) }
     {
         match &self.plans {
-            Some(plans) => plans.outlook(self.alloc, at),
+            Some(plans) => plans.outlook(self.alloc, since, at),
             None => None,
         }
     }

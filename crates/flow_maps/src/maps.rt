@@ -781,11 +781,11 @@ impl Maps {
         self.agenda.least_due(at)
     }
 
-    /// What the book waits for at a moment, if that is known and there is memory for the list.
-    pub fn outlook(&self, at: Moment) -> Option<BookWaits>
-        ensures { IfSome result (λ v. (b : Book) → Serves self.now b → v ≡ outlook_of at b) }
+    /// What the book waits for at a moment, and not before another, if that is known and there is memory for the list.
+    pub fn outlook(&self, since: u64, at: Moment) -> Option<BookWaits>
+        ensures { IfSome result (λ v. (b : Book) → Serves self.now b → v ≡ outlook_of since at b) }
     {
-        self.agenda.outlook(at)
+        self.agenda.outlook(since, at)
     }
 
     /// Where the signal of a request is recorded in the runs of a flow, if that is known.
