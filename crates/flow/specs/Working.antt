@@ -9,6 +9,7 @@ use Rattle.flow_base.specs.declared.fault.Fault.{Fault}
 use Rattle.flow_base.specs.declared.fault.Fault.TheVariants as fault
 use Rattle.flow_model.specs.declared.answer.Answering.{Ghosts as Answerings}
 use Rattle.flow_lines.specs.Answering.{AllAnswered, HasFew, IsFull, OfBatch, SomeAnswered, StatusWithin, StopsAmong, StopsWithin}
+use Rattle.flow_lines.specs.Counting.{IsCounted}
 use Rattle.flow_lines.specs.Driving.{lines_of, WritesBeginning}
 use Rattle.flow_lines.specs.Ends.{input_failed, output_failed}
 use Rattle.flow_lines.specs.Faults.{fault_status}
@@ -23,23 +24,23 @@ use Rattle.flow_cli.specs.declared.work.Work.{Work}
 -- The work was done over what keeps the book, from these lines on and to this output: all that `perform` tells of it.
 pub record Performs {E I O : Type 0} (a : Answerings E) (i : Inputs I) (o : Outputs O) (w : Work) (first last : I) (before behind : E) (old new : O) (r : Result ℕ Fault) : Type 0 where
   pub done : IfOk r (λ n. OfWork w
-      (λ most. a.is_sure behind → IfSome (i.left first) (λ bytes. AllAnswered a.rules (OfBatch most (a.gives_up before behind)) (IsFull most) (a.book before) (a.book behind) (lines_of bytes) (o.contents old) (o.contents new) n))
+      (λ most. a.is_sure behind → IfSome (i.left first) (λ bytes. AllAnswered a.rules (OfBatch most (a.gives_up before behind)) (IsCounted a before behind) (IsFull most) (a.book before) (a.book behind) (lines_of bytes) (o.contents old) (o.contents new) n))
       (λ run. a.is_sure behind → TellsHistory a.rules (a.book before) (a.book behind) run (o.contents old) (o.contents new)))
   pub status : IfOk r (λ n. OfWork w (λ most. StatusWithin (OfBatch most (a.gives_up before behind)) n) (λ run. n ≡ 0))
   pub part : IfErr r (λ e. OfWork w
-      (λ most. a.is_sure behind → IfSome (i.left first) (λ bytes. StopsWithin a.rules (OfBatch most (a.gives_up before behind)) (OfBatch most (a.stops before behind)) (IsFull most) (a.book before) (a.book behind) e (lines_of bytes) (o.contents old) (o.contents new)))
+      (λ most. a.is_sure behind → IfSome (i.left first) (λ bytes. StopsWithin a.rules (OfBatch most (a.gives_up before behind)) (IsCounted a before behind) (OfBatch most (a.stops before behind)) (IsFull most) (a.book before) (a.book behind) e (lines_of bytes) (o.contents old) (o.contents new)))
       (λ run. (new ≡ old) ⊎ (a.is_sure behind → BeginsHistory a.rules (a.book before) (a.book behind) run (o.contents old) (o.contents new))))
   pub early : IfErr r (λ e. OfWork w (λ most. fault_status e ≡ 3) (λ run. (e ≡ fault.NoRun) ⊎ (fault_status e ≡ 3)))
   pub lines : IfOk r (λ n. OfWork w
-      (λ most. a.is_sure behind → SomeAnswered a.rules (OfBatch most (a.gives_up before behind)) (HasFew most) (a.book before) (a.book behind) 0 (o.contents old) (o.contents new) n)
+      (λ most. a.is_sure behind → SomeAnswered a.rules (OfBatch most (a.gives_up before behind)) (IsCounted a before behind) (HasFew most) (a.book before) (a.book behind) 0 (o.contents old) (o.contents new) n)
       (λ run. Unit {0}))
   pub cut : IfErr r (λ e. OfWork w
-      (λ most. a.is_sure behind → StopsAmong a.rules (OfBatch most (a.gives_up before behind)) (OfBatch most (a.stops before behind)) (HasFew most) (a.book before) (a.book behind) e (o.contents old) (o.contents new))
+      (λ most. a.is_sure behind → StopsAmong a.rules (OfBatch most (a.gives_up before behind)) (IsCounted a before behind) (OfBatch most (a.stops before behind)) (HasFew most) (a.book before) (a.book behind) e (o.contents old) (o.contents new))
       (λ run. Unit {0}))
   pub input : i.failed last ≡ input_failed r (i.failed first)
   pub output : o.failed new ≡ output_failed r (o.failed old)
   pub memory : IfErr r (λ e. OfWork w
-      (λ most. e ≡ fault.NoMemory _ → (o.ran_out new ≡ true) ⊎ (a.is_sure behind → (n : ℕ) × SomeAnswered a.rules (OfBatch most (a.gives_up before behind)) (HasFew most) (a.book before) (a.book behind) 0 (o.contents old) (o.contents new) n))
+      (λ most. e ≡ fault.NoMemory _ → (o.ran_out new ≡ true) ⊎ (a.is_sure behind → (n : ℕ) × SomeAnswered a.rules (OfBatch most (a.gives_up before behind)) (IsCounted a before behind) (HasFew most) (a.book before) (a.book behind) 0 (o.contents old) (o.contents new) n))
       (λ run. Unit {0}))
   pub cause : IfErr r (λ e. OfWork w
       (λ most. CausedFault e (StoppedBy a.rules (OfBatch most (a.gives_up before behind)) (OfBatch most (a.stops before behind)) (IsFull most) (a.is_sure behind) (a.book before) (i.left first)))

@@ -1,6 +1,7 @@
 -- The entries of runs in the words of the kit's cache.
-use Rattle.std.proofs.Common.{◌≡◌, ◌-◌, ◌∷◌, [], ℕ, Bool, true, false, Option, Some, None, Contains, IsSome, take, refl, sym, ap, ◌∙◌, subst, inl, inr, nat_eq, cond}
+use Rattle.std.proofs.Common.{◌≡◌, ◌-◌, ◌∷◌, [], List, ℕ, suc, arith, Bool, true, false, Option, Some, None, Contains, IsSome, take, refl, sym, ap, ◌∙◌, subst, inl, inr, nat_eq, cond}
 use Rattle.std.specs.Option.{option_map, option_map_or}
+use Rattle.std.specs.Prelude.{◌⊎◌}
 use Rattle.std.specs.Map.{lookup, lookup_entry, remove_entry}
 use Rattle.std.proofs.lemmas.Bool.{eqb-true}
 use Rattle.lru.specs.LruCache.{LruCache, lru_cache, promoted, put_entries}
@@ -111,6 +112,44 @@ used_have P run es (Some e) is all =
 
 pub used_have_it : (P : Rule) → UsedHaveIt P
 used_have_it P run es all = used_have P run es (entry_of run es) refl all
+
+---- Where one was used, the others are still there
+
+none_there : {A : Type 0} (x : A) → Contains [] x → ⊥
+none_there x c = let within = c.1 in absurd (omega (arith, within))
+
+in_front : {A : Type 0} (x : A) (xs : List A) → Contains (x ∷ xs) x
+in_front x xs = (0, omega arith, refl)
+
+behind_it : {A : Type 0} (x y : A) (xs : List A) → Contains xs x → Contains (y ∷ xs) x
+behind_it x y xs c = let within = c.1 in (suc c.0, omega (arith, within), c.2)
+
+-- an entry is the one that was found, or one of those that are left without it
+left_without : (run : ℕ) (x : Entry) (e : ℕ × Entry) (es : Entries) → entry_of run es ≡ Some x → Contains es e → (e ≡ (run, x)) ⊎ Contains (remove_entry (nat_eq run) es) e
+left_without run x e [] is c = absurd (none_there e c)
+left_without run x e (f ∷ es) is c = by (nat_eq run f.0) refl is (Contains-cons f es e c)
+  where
+    later : (e ≡ (run, x)) ⊎ Contains (remove_entry (nat_eq run) es) e → (e ≡ (run, x)) ⊎ Contains (f ∷ remove_entry (nat_eq run) es) e
+    later (inl same) = inl same
+    later (inr there) = inr (behind_it e f (remove_entry (nat_eq run) es) there)
+
+    by : (v : Bool) → nat_eq run f.0 ≡ v → cond v (Some f.1) (entry_of run es) ≡ Some x → (f ≡ e) ⊎ Contains es e → (e ≡ (run, x)) ⊎ Contains (cond v es (f ∷ remove_entry (nat_eq run) es)) e
+    by true own at (inl same) = let number = eqb-true run f.0 own in let entry = same_Some at in inl (sym same ∙ (λ i. (sym number i, entry i)))
+    by true own at (inr below) = inr below
+    by false other at (inl same) = inr (subst (λ (y : ℕ × Entry). Contains (f ∷ remove_entry (nat_eq run) es) y) same (in_front f (remove_entry (nat_eq run) es)))
+    by false other at (inr below) = later (left_without run x e es at below)
+
+used_keep : (run : ℕ) (es : Entries) (o : Option Entry) → entry_of run es ≡ o → (e : ℕ × Entry) → Contains es e → Contains (used_by o run es) e
+used_keep run es None is e c = c
+used_keep run es (Some x) is e c = elim (left_without run x e es is c) [
+  | inl same ↦ subst (λ (y : ℕ × Entry). Contains ((run, x) ∷ remove_entry (nat_eq run) es) y) (sym same) (in_front (run, x) (remove_entry (nat_eq run) es))
+  | inr there ↦ behind_it e (run, x) (remove_entry (nat_eq run) es) there
+]
+
+pub used_keeps : (run : ℕ) (es : Entries) (e : ℕ × Entry) → Contains es e → Contains (used run es) e
+used_keeps run es e c = used_keep run es (entry_of run es) refl e c
+
+---- What is kept
 
 others_have : (P : Rule) (run : ℕ) (k : Kept) (o : Option Entry) → AllHave P k.entries → AllHave P (others_by o run k)
 others_have P run k None all = same_have P k.entries (take (k.capacity - 1) k.entries) all (Contains-take (k.capacity - 1) k.entries)

@@ -22,6 +22,9 @@ pub struct Deciding<V, P> {
 }
 
 impl<V: View + Drop, P: Programs + Drop> Answering for Deciding<V, P> {
+    ghost use Rattle.std.proofs.Common.{inl};
+    ghost use Rattle.flow_model.proofs.Failures.{no_fewer};
+
     ghost rules = { rules_of P.meaning };
 
     ghost book = { λ s. V.book s.view };
@@ -33,6 +36,10 @@ impl<V: View + Drop, P: Programs + Drop> Answering for Deciding<V, P> {
     // No command is given up.
     ghost gives_up = { λ a s b cs k. ⊥ };
 
+    ghost failures = { λ s. 0 };
+
+    ghost excuses = { λ a s b cs. ⊥ };
+
     ghost stops = { λ a s b cs stop. Unit {0} };
 
     ghost follows_self = { λ a v before. before };
@@ -40,6 +47,15 @@ impl<V: View + Drop, P: Programs + Drop> Answering for Deciding<V, P> {
     ghost gives_up_still = { λ a b c k cs code on none. none };
 
     ghost gives_up_since = { λ a b c k cs code on later none. none };
+
+    // No failure is counted, since there is no store.
+    ghost failures_still = { λ a b sure on. no_fewer 0 };
+
+    ghost excused_or_failed = { λ a b k cs sure none. inl none };
+
+    ghost excuses_still = { λ a b c k cs sure on none. none };
+
+    ghost excuses_since = { λ a b c k cs sure on later none. none };
 
     fn answer(&mut self, command: Command) -> Result<Answer, Stop> {
         // No position is known from one command to the next.

@@ -37,6 +37,10 @@ impl<E: Answering + Drop> Answering for Failing<E> {
     // The other one has given them up, or this one has, with E80.
     ghost gives_up = { λ a s b cs k. E.gives_up a.inner s.inner b cs k ⊎ (k ≡ StoreRefused) };
 
+    ghost failures = { λ s. E.failures s.inner };
+
+    ghost excuses = { λ a s b cs. Unit {0} };
+
     ghost stops = { λ a s b cs k. Unit {0} };
 
     ghost follows_self = { λ a. E.follows_self a.inner };
@@ -50,6 +54,14 @@ impl<E: Answering + Drop> Answering for Failing<E> {
       | inl inside ↦ inl (E.gives_up_since a.inner b.inner c.inner k cs code on later inside)
       | inr here ↦ inr here
     ] };
+
+    ghost failures_still = { λ a b. E.failures_still a.inner b.inner };
+
+    ghost excused_or_failed = { λ a b k cs sure given. inl tt };
+
+    ghost excuses_still = { λ a b c k cs sure on it. it };
+
+    ghost excuses_since = { λ a b c k cs sure on later it. it };
 
     fn answer(&mut self, command: Command) -> Result<Answer, Stop> {
         if self.before == 0 {

@@ -3,6 +3,7 @@ ghost use Rattle.std.specs.Prelude.{◌≡◌, ◌⊎◌, ◌∷◌, [], ℕ, tr
 ghost use Rattle.flow_base.specs.declared.code.Code.TheVariants as codes;
 ghost use Rattle.flow_base.specs.declared.command.Command.TheVariants as commands;
 ghost use Rattle.flow_lines.specs.Answering.{AllAnswered, HasFew, IsFull, OfBatch, SomeAnswered, StatusWithin, StopsAmong, StopsWithin};
+ghost use Rattle.flow_lines.specs.Counting.{IsCounted};
 ghost use Rattle.flow_lines.specs.Driving.{lines_of};
 ghost use Rattle.flow_lines.specs.Ends.{input_failed, output_failed};
 ghost use Rattle.flow_lines.specs.Faults.{fault_status};
@@ -43,7 +44,8 @@ pub fn perform<I: LineSource, O: Output, E: Answering>(
 ) -> Result<u8, Fault>
     ensures done { IfOk result (λ n. OfWork work.now
         (λ most. E.is_sure engine.new → IfSome (I.left input.old)
-        (λ bytes. AllAnswered E.rules (OfBatch most (E.gives_up engine.old engine.new)) (IsFull most) (E.book engine.old)
+        (λ bytes. AllAnswered E.rules (OfBatch most (E.gives_up engine.old engine.new))
+        (IsCounted E.Answering engine.old engine.new) (IsFull most) (E.book engine.old)
         (E.book engine.new) (lines_of bytes) (O.contents output.old) (O.contents output.new) n))
         (λ run. E.is_sure engine.new → TellsHistory E.rules (E.book engine.old) (E.book engine.new) run (O.contents output.old)
         (O.contents output.new))) }
@@ -51,17 +53,20 @@ pub fn perform<I: LineSource, O: Output, E: Answering>(
         (λ run. n ≡ 0)) }
     ensures part { IfErr result (λ e. OfWork work.now
         (λ most. E.is_sure engine.new → IfSome (I.left input.old)
-        (λ bytes. StopsWithin E.rules (OfBatch most (E.gives_up engine.old engine.new)) (OfBatch most (E.stops engine.old engine.new))
+        (λ bytes. StopsWithin E.rules (OfBatch most (E.gives_up engine.old engine.new))
+        (IsCounted E.Answering engine.old engine.new) (OfBatch most (E.stops engine.old engine.new))
         (IsFull most) (E.book engine.old) (E.book engine.new) e (lines_of bytes) (O.contents output.old) (O.contents output.new)))
         (λ run. (output.new ≡ output.old) ⊎ (E.is_sure engine.new
         → BeginsHistory E.rules (E.book engine.old) (E.book engine.new) run (O.contents output.old) (O.contents output.new)))) }
     ensures early { IfErr result (λ e. OfWork work.now (λ most. fault_status e ≡ 3) (λ run. (e ≡ Fault.NoRun) ⊎ (fault_status e ≡ 3))) }
     ensures lines { IfOk result (λ n. OfWork work.now
-        (λ most. E.is_sure engine.new → SomeAnswered E.rules (OfBatch most (E.gives_up engine.old engine.new)) (HasFew most)
+        (λ most. E.is_sure engine.new → SomeAnswered E.rules (OfBatch most (E.gives_up engine.old engine.new))
+        (IsCounted E.Answering engine.old engine.new) (HasFew most)
         (E.book engine.old) (E.book engine.new) 0 (O.contents output.old) (O.contents output.new) n)
         (λ run. Unit {0})) }
     ensures cut { IfErr result (λ e. OfWork work.now
         (λ most. E.is_sure engine.new → StopsAmong E.rules (OfBatch most (E.gives_up engine.old engine.new))
+        (IsCounted E.Answering engine.old engine.new)
         (OfBatch most (E.stops engine.old engine.new)) (HasFew most) (E.book engine.old) (E.book engine.new) e (O.contents output.old)
         (O.contents output.new))
         (λ run. Unit {0})) }
@@ -70,7 +75,8 @@ pub fn perform<I: LineSource, O: Output, E: Answering>(
     ensures output { O.failed output.new ≡ output_failed result (O.failed output.old) }
     ensures memory { IfErr result (λ e. OfWork work.now
         (λ most. e ≡ Fault.NoMemory _ → (O.ran_out output.new ≡ true)
-        ⊎ (E.is_sure engine.new → (n : ℕ) × SomeAnswered E.rules (OfBatch most (E.gives_up engine.old engine.new)) (HasFew most)
+        ⊎ (E.is_sure engine.new → (n : ℕ) × SomeAnswered E.rules (OfBatch most (E.gives_up engine.old engine.new))
+        (IsCounted E.Answering engine.old engine.new) (HasFew most)
         (E.book engine.old) (E.book engine.new) 0 (O.contents output.old) (O.contents output.new) n))
         (λ run. Unit {0})) }
     ensures cause { IfErr result (λ e. OfWork work.now

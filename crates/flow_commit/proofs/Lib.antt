@@ -5,6 +5,7 @@ pub mod RunningOut
 pub mod Posting
 pub mod Sealing
 pub mod Seating
+pub mod Looking
 pub mod BoardRows
 pub mod Refusing
 pub mod Handed

@@ -1,8 +1,11 @@
 -- What a board names: the tasks that are ready and weren't posted, and what else whoever posts them needs to know.
-use Rattle.std.specs.Prelude.{◌≡◌, ℕ, Bool, true, ◌&&◌, not, ◌++◌, List, [], ◌∷◌, filter, Option, Some, None, nat_eq, refl}
+use Rattle.std.specs.Prelude.{◌≡◌, ℕ, ◌+◌, ◌<◌, Bool, true, ◌&&◌, not, ◌++◌, List, [], ◌∷◌, filter, Option, Some, None, nat_eq, nat_lt, if◌then◌else◌, refl}
 use Rattle.std.specs.Coded.{Coded, code_by, coded×, coded_ℕ, coded_list, coded_option}
 use Rattle.std.specs.List.{list_any}
 use Rattle.flow_base.specs.Syntax.{Bytes}
+use Rattle.flow_base.specs.declared.book.Change.{Change}
+use Rattle.flow_base.specs.declared.book.Change.TheVariants.{AddRun, AddText, AddTurn, SetAttempt, SetText}
+use Rattle.flow_base.specs.declared.book.OpenActivity.{OpenActivity}
 use Rattle.flow_base.specs.declared.event.Cmd.{Cmd}
 use Rattle.flow_base.specs.declared.event.Cmd.TheVariants.{Schedule}
 use Rattle.flow_base.specs.declared.event.Event.{Event}
@@ -12,7 +15,7 @@ use Rattle.flow_base.specs.declared.fault.Fault.{Fault}
 use Rattle.flow_base.specs.declared.fault.Fault.TheVariants as fault
 use Rattle.flow_base.specs.declared.value.Value.{Value}
 use Rattle.flow_model.specs.Book.{Book}
-use Rattle.flow_maps.specs.Agenda.{open_runs}
+use Rattle.flow_maps.specs.Agenda.{open_runs, tasks_at}
 use Rattle.flow_maps.specs.Outlooks.{Waiting, ready_by, soonest, waiting}
 use Rattle.flow_rows.specs.Dues.{next_moment}
 use Rattle.flow_view.specs.Heads.{event_at, head_at}
@@ -98,6 +101,49 @@ tasks_of b (w ∷ ws) = task_at b w ++ tasks_of b ws
 abbrev pub ready_tasks : List Key → ℕ → Book → List Task
 ready_tasks posted at b = tasks_of b (filter (is_new posted) (ready_by at b))
 
+---- From which moment on the next board has to look
+
+-- the sooner of a moment and of the one from which on an attempt may be made
+abbrev pub since_one : ℕ → Waiting → ℕ
+since_one n w = if nat_lt w.1.ready n then w.1.ready else n
+
+abbrev pub since_all : ℕ → List Waiting → ℕ
+since_all n [] = n
+since_all n (w ∷ ws) = since_all (since_one n w) ws
+
+-- Behind a board at a moment: the first moment of what it names, which may not be posted yet, or else the next moment.
+abbrev pub since_next : List Key → ℕ → Book → ℕ
+since_next posted at b = since_all (at + 1) (filter (is_new posted) (ready_by at b))
+
+-- the sooner of two moments
+abbrev pub sooner_of : ℕ → ℕ → ℕ
+sooner_of n m = if nat_lt m n then m else n
+
+-- Behind a change: the moment of an attempt that comes with it, if that is sooner.
+abbrev pub since_changed : ℕ → Change → ℕ
+since_changed n (AddText body) = n
+since_changed n (AddRun flow request text t) = sooner_of n t.at
+since_changed n (AddTurn run t) = sooner_of n t.at
+since_changed n (SetAttempt run event attempt ready) = sooner_of n ready
+since_changed n (SetText run text) = n
+
+abbrev pub since_changes : ℕ → List Change → ℕ
+since_changes n [] = n
+since_changes n (c ∷ cs) = since_changes (since_changed n c) cs
+
+-- Of a run's open activities those were posted that may be attempted before a moment.
+abbrev pub WerePosted : List Key → ℕ → ℕ → List OpenActivity → Type 0
+WerePosted posted since n [] = Unit {0}
+WerePosted posted since n (t ∷ ts) = (t.ready < since → is_posted posted (n, t.event, t.attempt) ≡ true) × WerePosted posted since n ts
+
+-- and of all runs of a book: so a board of it needn't look at what may be attempted before
+abbrev pub AllWerePosted : List Key → ℕ → Book → Type 0
+AllWerePosted posted since b = (n : ℕ) → WerePosted posted since n (tasks_at b n)
+
+-- all of these keys are among those
+abbrev pub AreAmong : List Key → List Key → Type 0
+AreAmong some all = (q : Key) → is_posted some q ≡ true → is_posted all q ≡ true
+
 -- When more is to be done: the least of the open timers' due moments and of the ready moments after this one.
 abbrev pub next_due : ℕ → Book → Option ℕ
 next_due at b = soonest at (next_moment b) (waiting b)
@@ -117,7 +163,7 @@ IsOfBoard halted _ = ⊥
 
 -- What is read of a book for a board.
 abbrev pub draft_of : List Key → ℕ → Book → Draft
-draft_of posted at b = record { tasks = ready_tasks posted at b; due = next_due at b; open_runs = open_runs b }
+draft_of posted at b = record { tasks = ready_tasks posted at b; due = next_due at b; open_runs = open_runs b; since = since_next posted at b }
 
 -- how a refusal of the tables is told
 abbrev pub board_fault : ViewFault → Fault

@@ -15,7 +15,7 @@ use Rattle.flow_view.specs.declared.fault.ViewFault.TheVariants.{StoreRefused}
 use Rattle.flow_tables.specs.Owned.{Follows, state_of}
 use Rattle.flow_commit.specs.declared.outcome.Outcome.{Outcome}
 use Rattle.flow_commit.specs.declared.outcome.Outcome.TheVariants as outcomes
-use Rattle.flow_commit.specs.Boards.{Boarded, IsBoardOf, IsOfBoard}
+use Rattle.flow_commit.specs.Boards.{AreAmong, Boarded, IsBoardOf, IsOfBoard}
 use Rattle.flow_commit.specs.Committing.{HasCommitted, HasGoneOn, HasNoRoom, HasNoted, IsDown, IsFor, IsRefusedFor}
 use Rattle.flow_commit.specs.Keeping.{Keeping, IsFit, IsUp, KeepsBook, kept_book, logged, rules}
 use Rattle.flow_commit.specs.Verifying.{IsOfVerify, IsVerified}
@@ -30,6 +30,7 @@ pub record CommitSays {S : Type 0} (g : Ghosts S) (old new : Keeping S) (batch :
   pub full : old.halted ≡ false → HasNoRoom old.kept batch → (result ≡ outcomes.NotApplied batch StoreRefused) × (new ≡ old)
   pub same : new.stored.opened ≡ old.stored.opened
   pub found : new.found ≡ old.found
+  pub posted : new.posted ≡ old.posted
   pub noted : HasNoted g old new batch result
   -- an open connection was open before, and kept a book unless nothing was done
   pub up : IsFit g new → IsUp g new → IsUp g old
@@ -63,6 +64,8 @@ pub record BoardSays {S : Type 0} (g : Ghosts S) (posted : List Key) (moment : �
   pub stayed : HasStayed g old new result
   pub among : IfErr result (IsOfBoard old.halted)
   pub cause : IsFit g new → IfErr result (λ f. f ≡ faults.StoreRefused → IsDown g old.stored new.stored)
+  -- whoever asks for the next one owes no more than these
+  pub owes : old.halted ≡ false → AreAmong new.posted posted
 
 -- Each run of the book was replayed.
 pub record VerifySays {S : Type 0} (g : Ghosts S) (old new : Keeping S) (result : Result Totals Fault) : Type 0 where

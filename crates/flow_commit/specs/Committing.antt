@@ -35,6 +35,12 @@ HasReplies count (end.Kept rs) = length rs.items ≡ count
 HasReplies count (end.Refused f) = Unit {0}
 HasReplies count (end.Unknown f _) = Unit {0}
 
+-- it wasn't
+abbrev pub IsUnkept : End → Type 0
+IsUnkept (end.Kept rs) = ⊥
+IsUnkept (end.Refused f) = Unit {0}
+IsUnkept (end.Unknown f _) = Unit {0}
+
 ---- Why nothing is kept
 
 -- Commands can't be applied to a book: one of them can't be decided there, or makes a change that doesn't fit.

@@ -4,6 +4,7 @@ use Rattle.std.specs.Coded.{Coded, code_by, coded×, coded_ℕ, coded_bool, code
 use Rattle.sqlite_trees.specs.declared.store.Store.{Ghosts}
 use Rattle.flow_base.specs.declared.command.Command.{Command}
 use Rattle.flow_base.specs.declared.command.Reply.{Reply}
+use Rattle.flow_base.specs.Keys.{Key, key_code}
 use Rattle.flow_check.specs.Language.{meaning_of}
 use Rattle.flow_model.specs.Book.{Book}
 use Rattle.flow_commit.specs.Accounts.{Accounted, book_code, handed_in, log_code}
@@ -17,19 +18,21 @@ use Rattle.flow_tables.specs.Owned as tables
 use Rattle.flow_tables.specs.Owned.{Stored, stored_code, state_of, Keeps, LeavesEither}
 
 -- The value of a keeper: its tables, how many commands it has kept since they were opened, and whether it has halted; for
--- contracts alone also the book that was found when it was made, and the receipts of all commands that it has kept since.
+-- contracts alone also the book that was found when it was made, the receipts of all commands that it has kept since, and what had
+-- been posted when the last board was made.
 pub record Keeping (S : Type 0) : Type 0 where
   pub stored : Stored S
   pub kept : ℕ
   pub halted : Bool
   pub found : Book
   pub log : List Receipt
+  pub posted : List Key
 
 abbrev pub keeping_code : {S : Type 0} → Coded S → Coded (Keeping S)
 keeping_code {S} store =
-    code_by (Stored S × (ℕ × (Bool × (Book × List Receipt)))) (coded× (stored_code store) (coded× coded_ℕ (coded× coded_bool (coded× book_code log_code))))
-    (λ k. (k.stored, (k.kept, (k.halted, (k.found, k.log)))))
-    (λ p. record { stored = p.0; kept = p.1.0; halted = p.1.1.0; found = p.1.1.1.0; log = p.1.1.1.1 }) (λ _. refl)
+    code_by (Stored S × (ℕ × (Bool × (Book × (List Receipt × List Key))))) (coded× (stored_code store) (coded× coded_ℕ (coded× coded_bool (coded× book_code (coded× log_code (coded_list key_code))))))
+    (λ k. (k.stored, (k.kept, (k.halted, (k.found, (k.log, k.posted))))))
+    (λ p. record { stored = p.0; kept = p.1.0; halted = p.1.1.0; found = p.1.1.1.0; log = p.1.1.1.1.0; posted = p.1.1.1.1.1 }) (λ _. refl)
 
 -- the rules of the product
 abbrev pub rules : Rules

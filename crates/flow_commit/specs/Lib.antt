@@ -1,5 +1,6 @@
 pub mod Accounts
 pub mod Keeping
+pub mod Looking
 pub mod Committing
 pub mod Stamps
 pub mod Boards

@@ -47,6 +47,7 @@ pub(crate) fn board_of(draft: Draft, kept: u64, posted: &BTreeSet<Posted>) -> Bo
         tasks,
         due,
         open_runs,
+        since: _,
     } = draft;
     Board {
         tasks: tasks.into_vec(),

@@ -1,5 +1,5 @@
 //! Which open activities are to be posted, and when there is more to be done.
-ghost use Rattle.std.specs.Prelude.{◌≡◌, ◌++◌, IfOk, OnOk, filter};
+ghost use Rattle.std.specs.Prelude.{◌≡◌, ◌+◌, ◌++◌, IfOk, OnOk, filter};
 ghost use Rattle.flow_view.specs.Called.{Kept};
 ghost use Rattle.flow_view.specs.Reading.{Caused};
 ghost use Rattle.flow_tables.specs.Calls.{Recalled};
@@ -27,6 +27,8 @@ pub(crate) struct Draft {
     pub(crate) tasks: Sequence<Task>,
     pub(crate) due: Option<Moment>,
     pub(crate) open_runs: u64,
+    /// What may be attempted before this moment the next board needn't look at.
+    pub(crate) since: u64,
 }
 
 fn is_posted(posted: &BTreeSet<Posted>, key: &Posted) -> bool
@@ -59,6 +61,28 @@ pub(crate) fn wanted(
         }
     }
     Ok(list)
+}
+
+/// The sooner of a moment and of the one from which on an attempt may be made.
+fn since_one(since: u64, entry: &Waiting) -> u64
+    ensures { result ≡ rule.since_one since entry.now }
+{
+    let ready = entry.1.ready.get();
+    if ready < since {
+        return ready;
+    }
+    since
+}
+
+/// From which moment on the next board has to look at what waits, behind a board at a moment that names these.
+pub(crate) fn since_next(at: Moment, new: &[Waiting]) -> u64
+    ensures { result ≡ rule.since_all (at + 1) new.now }
+{
+    let mut since = at.get() + 1;
+    for entry in new {
+        since = since_one(since, entry);
+    }
+    since
 }
 
 fn called_of(alloc: Global, command: &Cmd) -> Result<Option<(Key, Sequence<Value>)>, AllocError>

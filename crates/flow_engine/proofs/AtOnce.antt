@@ -23,6 +23,7 @@ use Rattle.flow_engine.specs.Driving.{NotesAll, Runs, has_unknown, kept_of, in_h
 use Rattle.flow_engine.specs.Together.{HasRunOnce, IsToldOf, IsTogether, are_kept}
 use Rattle.flow_engine.proofs.Committed.{one_book}
 use Rattle.flow_engine.proofs.OneMore.{WasOwn}
+use Rattle.flow_engine.specs.Counting.{IsCounted}
 use Rattle.flow_engine.specs.GivingUp.{AreGivenUp, GivesUp, WasRefused}
 use Rattle.flow_commit.specs.Committing.{HasGoneOn}
 use Rattle.flow_commit.proofs.Refusing.{gone_on_self}
@@ -36,6 +37,7 @@ pub record HasDrivenOne {S : Type 0} (g : Ghosts S) (old new : Keeping S) (batch
   pub up : IsFit g new → IsUp g new → IsUp g old
   pub own : IsFit g new → IsUp g old → WasOwn g old new
   pub given_up : IsFit g new → AreGivenUp (WasRefused g old new) (kept_book g old) (batch ∷ []) (d ∷ [])
+  pub counted : IsFit g new → IsCounted g old new (kept_book g old) (batch ∷ []) (d ∷ [])
   pub on : IsFit g new → HasGoneOn g old new
 
 abbrev head_of : Done → List Done → Done
@@ -66,7 +68,7 @@ module _ {S : Type 0} (g : Ghosts S) (old new : Keeping S) (batch : List Taken) 
     is_sure sure = record { fit = driven.runs.fit sure.fit; up = driven.up sure.fit sure.up }
 
     part_of : (t : Result Together Stop) → IsToldOf d t → HasRunOnce g old new (commands_of batch) t
-    part_of t told = record { batch = batch; done = d; are = refl; runs = driven.runs; told = told }
+    part_of t told = record { batch = batch; done = d; are = refl; runs = driven.runs; counted = driven.counted; told = told }
 
     module _ (went : old.halted ≡ false) where
       -- all are kept
@@ -217,14 +219,16 @@ first_of (y ∷ (z ∷ xs)) x one is = absurd (omega (arith, one))
 
 pub driven_one : {S : Type 0} (g : Ghosts S) (old new : Keeping S) (bs : List (List Taken)) (ds : List Done) (batch : List Taken) (d : Done) → bs ≡ batch ∷ [] → ds ≡ d ∷ [] → 1 ≤ length batch
     → Runs g old new bs ds → (old.halted ≡ false → NotesAll old new bs ds) → (IsFit g new → IsUp g new → IsUp g old) → (IsFit g new → IsUp g old → WasOwn g old new)
-    → (IsFit g new → AreGivenUp (WasRefused g old new) (kept_book g old) bs ds) → (IsFit g new → HasGoneOn g old new) → HasDrivenOne g old new batch d
-driven_one g old new bs ds batch d one_batch one_done some runs noted up own given_up on = record {
+    → (IsFit g new → AreGivenUp (WasRefused g old new) (kept_book g old) bs ds) → (IsFit g new → IsCounted g old new (kept_book g old) bs ds)
+    → (IsFit g new → HasGoneOn g old new) → HasDrivenOne g old new batch d
+driven_one g old new bs ds batch d one_batch one_done some runs noted up own given_up counts on = record {
   some = some;
   runs = subst (λ x. Runs g old new x (d ∷ [])) one_batch (subst (λ x. Runs g old new bs x) one_done runs);
   noted = λ goes. subst (λ x. NotesAll old new x (d ∷ [])) one_batch (subst (λ x. NotesAll old new bs x) one_done (noted goes));
   up = up;
   own = own;
   given_up = λ fit. subst (λ x. AreGivenUp (WasRefused g old new) (kept_book g old) x (d ∷ [])) one_batch (subst (λ x. AreGivenUp (WasRefused g old new) (kept_book g old) bs x) one_done (given_up fit));
+  counted = λ fit. subst (λ x. IsCounted g old new (kept_book g old) x (d ∷ [])) one_batch (subst (λ x. IsCounted g old new (kept_book g old) bs x) one_done (counts fit));
   on = on;
 }
 

@@ -1,37 +1,31 @@
 -- How often batches are given up, from batch to batch.
-use Rattle.std.proofs.Common.{◌≡◌, ◌⊎◌, inl, inr, ℕ, suc, ◌+◌, ◌≤◌, false, true, List, [], ◌∷◌, ◌++◌, length, Option, refl, sym, ◌∙◌, subst, arith}
-use Rattle.std.specs.Prelude.{IsSome}
+use Rattle.std.proofs.Common.{◌≡◌, ◌⊎◌, inl, inr, ℕ, suc, ◌+◌, ◌≤◌, false, true, List, [], ◌∷◌, ◌++◌, length, refl, sym, ◌∙◌, subst, arith}
 use Rattle.std.proofs.lemmas.Bool.{cases_Bool}
 use Rattle.sqlite_trees.specs.declared.store.Store.{Ghosts}
 use Rattle.sqlite_disk.specs.Disk.{MoreFaults}
 use Rattle.flow_base.specs.declared.command.Command.{Command}
 use Rattle.flow_model.specs.Book.{Book}
 use Rattle.flow_model.specs.Apply.{after}
+use Rattle.flow_model.specs.Answers.{IsMoreBy}
+use Rattle.flow_model.proofs.Failures.{more_none, more_still}
 use Rattle.flow_model.proofs.Logs.{after_cut}
 use Rattle.flow_base.specs.declared.submission.Taken.{Taken}
 use Rattle.flow_view.specs.declared.fault.ViewFault.{ViewFault}
 use Rattle.flow_view.specs.declared.fault.ViewFault.TheVariants as fault
 use Rattle.flow_tables.specs.Faults.{Since}
 use Rattle.flow_tables.specs.Owned.{state_of}
-use Rattle.flow_tables.proofs.Stopping.{since_then}
-use Rattle.sqlite.specs.Held.{state}
 use Rattle.flow_commit.specs.Keeping.{Keeping, rules, IsUp, kept_book, commands_of}
-use Rattle.flow_commit.specs.Committing.{HasGoneOn, IsDown}
+use Rattle.flow_commit.specs.Committing.{HasGoneOn}
 use Rattle.flow_commit.proofs.Sealing.{shut_on}
 use Rattle.flow_engine.specs.declared.done.Done.{Done}
 use Rattle.flow_engine.specs.declared.done.Done.TheVariants as done
 use Rattle.flow_engine.specs.Driving.{if_kept, kept_of}
 use Rattle.flow_engine.specs.GivingUp.{IsGivenUpFor, WasRefused}
-use Rattle.flow_engine.specs.Counting.{AreGivenUpBut, HasOtherCause, IsCounted, IsHeldBack, IsMoreBy}
+use Rattle.flow_engine.specs.Counting.{AreGivenUpBut, HasOtherCause, IsCounted}
+use Rattle.flow_engine.specs.Following.{failed_or_other, other_since, other_still}
 use Rattle.flow_engine.proofs.GivingUp.{given_up_on, given_up_over}
 
 ---- The count
-
-pub more_none : (a b : ℕ) → a ≤ b → IsMoreBy 0 a b
-more_none a b le = omega (arith, le)
-
-pub more_still : (n a b c : ℕ) → IsMoreBy n a b → b ≤ c → IsMoreBy n a c
-more_still n a b c more le = omega (arith, more, le)
 
 pub more_one : (n a b c : ℕ) → IsMoreBy n a b → MoreFaults b c → IsMoreBy (suc n) a c
 more_one n a b c more one = omega (arith, more, one)
@@ -92,62 +86,16 @@ but_failed P n b (x ∷ bs) (y ∷ ds) batch d long (inr h) =
           (but_failed P h.0 (after rules b (if_kept x y)) bs ds batch d fewer h.2),
     )
 
----- Causes
+---- From engine to engine
 
 module _ {S : Type 0} (g : Ghosts S) where
-  -- what stands behind E80 is a failure that was counted in between, or something else
-  pub failed_or_held : (mid new : Keeping S) → IsDown g mid.stored new.stored → IsHeldBack g mid new ⊎ MoreFaults
-      (state_of g mid.stored).faults (state_of g new.stored).faults
-  failed_or_held mid new (inl shut) = inl (inl shut)
-  failed_or_held mid new (inr (inl more)) = inr more
-  failed_or_held mid new (inr (inr other)) = inl (inr other)
-
-  failed_or_other : (mid new : Keeping S) (b : Book) (cs : List Command) → WasRefused g mid new b cs → HasOtherCause g mid new b cs
-      ⊎ MoreFaults (state_of g mid.stored).faults (state_of g new.stored).faults
-  failed_or_other mid new b cs (inl many) = inl (inl many)
-  failed_or_other mid new b cs (inr (inl cant)) = inl (inr (inl cant))
-  failed_or_other mid new b cs (inr (inr down)) = elim (failed_or_held mid new down) [
-    | inl held ↦ inl (inr (inr held))
-    | inr more ↦ inr
-        more
-  ]
-
   one_or_other : (mid new : Keeping S) (b : Book) (batch : List Taken) (d : Done) → IsGivenUpFor (WasRefused g mid new) b batch d
       → IsGivenUpFor (HasOtherCause g mid new) b batch d ⊎ MoreFaults (state_of g mid.stored).faults (state_of g new.stored).faults
   one_or_other mid new b batch (done.Kept rs) h = inl tt
   one_or_other mid new b batch (done.NotApplied (fault.NoMemory _)) h = inl tt
-  one_or_other mid new b batch (done.NotApplied fault.StoreRefused) h = failed_or_other mid new b (commands_of batch) h
+  one_or_other mid new b batch (done.NotApplied fault.StoreRefused) h = failed_or_other g mid new b (commands_of batch) h
   one_or_other mid new b batch done.Unknown h = inl tt
   one_or_other mid new b batch done.Halted h = inl tt
-
-  pub held_since : (old mid new : Keeping S) → Since (state_of g old.stored) (state_of g mid.stored) → IsHeldBack g mid new
-      → IsHeldBack g old new
-  held_since old mid new since (inl shut) = inl shut
-  held_since old mid new since (inr (inl limit)) = inr (inl (subst (λ (o : Option ℕ). IsSome o) since.1 limit))
-  held_since old mid new since (inr (inr full)) = inr
-      (inr (full.0, since_then (state_of g old.stored) (state_of g mid.stored) (state g full.0) since full.1, full.2, full.3))
-
-  pub held_still : (old mid new : Keeping S) → ((state_of g mid.stored).is_open ≡ false → (state_of g new.stored).is_open ≡ false)
-      → IsHeldBack g old mid → IsHeldBack g old new
-  held_still old mid new shuts (inl shut) = inl (shuts shut)
-  held_still old mid new shuts (inr other) = inr other
-
-  -- another cause since the engine was an earlier one
-  pub other_since : (old mid new : Keeping S) → Since (state_of g old.stored) (state_of g mid.stored) → (b : Book) (cs : List Command)
-      → HasOtherCause g mid new b cs → HasOtherCause g old new b cs
-  other_since old mid new since b cs (inl many) = inl many
-  other_since old mid new since b cs (inr (inl cant)) = inr (inl cant)
-  other_since old mid new since b cs (inr (inr held)) = inr (inr (held_since old mid new since held))
-
-  -- and now that it is a later one
-  pub other_still : (old mid new : Keeping S) → mid.kept ≤ new.kept → ((state_of g mid.stored).is_open ≡ false →
-      (state_of g new.stored).is_open ≡ false) → (b : Book) (cs : List Command) → HasOtherCause g old mid b cs → HasOtherCause g old new b
-      cs
-  other_still old mid new counts shuts b cs (inl many) = inl (omega (arith, many, counts))
-  other_still old mid new counts shuts b cs (inr (inl cant)) = inr (inl cant)
-  other_still old mid new counts shuts b cs (inr (inr held)) = inr (inr (held_still old mid new shuts held))
-
-  ---- From engine to engine
 
   pub none_counted : (old : Keeping S) (b : Book) (ds : List Done) → IsCounted g old old b [] ds
   none_counted old b ds = record {
@@ -166,7 +114,7 @@ module _ {S : Type 0} (g : Ghosts S) where
     failures = was.failures;
     counted = more_still was.failures (state_of g old.stored).faults (state_of g mid.stored).faults (state_of g new.stored).faults
         was.counted le;
-    are = but_on (HasOtherCause g old mid) (HasOtherCause g old new) (other_still old mid new counts shuts) was.failures b bs ds was.are;
+    are = but_on (HasOtherCause g old mid) (HasOtherCause g old new) (other_still g old mid new counts shuts) was.failures b bs ds was.are;
   }
 
   module _ (old mid new : Keeping S) (b : Book) (bs : List (List Taken)) (ds : List Done) (batch : List Taken) (d : Done)
@@ -192,7 +140,7 @@ module _ {S : Type 0} (g : Ghosts S) where
     by_cause (inl other) =
         let on_it = counted_still old mid new b bs ds on.since.0 on.counts (shut_on (state_of g mid.stored).is_open
         (state_of g new.stored).is_open on.up) was in
-        let since_old = given_up_on (HasOtherCause g mid new) (HasOtherCause g old new) (other_since old mid new since) (kept_book g mid)
+        let since_old = given_up_on (HasOtherCause g mid new) (HasOtherCause g old new) (other_since g old mid new since) (kept_book g mid)
         batch d other in
         record {
           failures = on_it.failures;
@@ -206,7 +154,7 @@ module _ {S : Type 0} (g : Ghosts S) where
           was.counted failed;
       are = but_failed (HasOtherCause g old new) was.failures b bs ds batch d long
           (but_on (HasOtherCause g old mid) (HasOtherCause g old new)
-          (other_still old mid new on.counts (shut_on (state_of g mid.stored).is_open (state_of g new.stored).is_open on.up))
+          (other_still g old mid new on.counts (shut_on (state_of g mid.stored).is_open (state_of g new.stored).is_open on.up))
           was.failures b bs ds was.are);
     }
 

@@ -1,9 +1,10 @@
 -- How many batches an engine gives up: no more than the failures that its store has counted, but for other causes.
-use Rattle.std.specs.Prelude.{◌≡◌, ◌⊎◌, ◌+◌, ◌≤◌, ◌-◌, ◌^◌, ℕ, suc, false, List, [], ◌∷◌, length, min, IsSome}
+use Rattle.std.specs.Prelude.{◌≡◌, ◌⊎◌, ◌+◌, ◌≤◌, ◌^◌, ℕ, suc, false, List, [], ◌∷◌, length, IsSome}
 use Rattle.sqlite_trees.specs.declared.store.Store.{Ghosts}
 use Rattle.flow_base.specs.declared.command.Command.{Command}
 use Rattle.flow_model.specs.Book.{Book}
 use Rattle.flow_model.specs.Apply.{after}
+use Rattle.flow_model.specs.Answers.{IsMoreBy}
 use Rattle.flow_base.specs.declared.submission.Taken.{Taken}
 use Rattle.flow_tables.specs.Faults.{WasFull}
 use Rattle.flow_tables.specs.Owned.{state_of}
@@ -31,10 +32,6 @@ AreGivenUpBut why n b (batch ∷ batches) [] = Unit {0}
 AreGivenUpBut why n b (batch ∷ batches) (d ∷ ds) =
     (IsGivenUpFor why b batch d × AreGivenUpBut why n (after rules b (if_kept batch d)) batches ds)
     ⊎ ((fewer : ℕ) × (n ≡ suc fewer) × AreGivenUpBut why fewer (after rules b (if_kept batch d)) batches ds)
-
--- so many failures were counted between these two counts; past its last number the store counts no further
-abbrev pub IsMoreBy : ℕ → ℕ → ℕ → Type 0
-IsMoreBy n old new = min (old + n) (2 ^ 64 - 1) ≤ new
 
 -- Another cause stands behind each batch that was given up with E80, but for at most as many as the store has counted failures since the
 -- engine was the first.

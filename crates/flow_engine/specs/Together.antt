@@ -16,6 +16,7 @@ use Rattle.flow_tables.specs.Owned.{state_of, LeavesEither}
 use Rattle.flow_commit.specs.Keeping.{Keeping, rules, IsFit, KeepsBook, commands_of, kept_book}
 use Rattle.flow_engine.specs.Answering.{IsSure, Follows, HasAnswered, HasStopped}
 use Rattle.flow_commit.specs.Committing.{HasGoneOn}
+use Rattle.flow_engine.specs.Counting.{IsCounted}
 use Rattle.flow_engine.specs.GivingUp.{GivesUp}
 use Rattle.flow_engine.specs.Driving.{Runs, reply_of}
 use Rattle.flow_engine.specs.declared.done.Done.{Done}
@@ -46,12 +47,14 @@ IsToldOf done.Unknown (Err s) = s ≡ stop.Unknown
 IsToldOf done.Halted (Ok t) = ⊥
 IsToldOf done.Halted (Err s) = s ≡ stop.Halted
 
--- Commands were answered so as one batch that the engine has answered.
+-- Commands were answered so as one batch that the engine has answered. If it was given up with E80, the store has counted a failure more,
+-- or there is another cause.
 pub record HasRunOnce {S : Type 0} (g : Ghosts S) (old new : Keeping S) (commands : List Command) (result : Result Together Stop) : Type 0 where
   pub batch : List Taken
   pub done : Done
   pub are : commands ≡ commands_of batch
   pub runs : Runs g old new (batch ∷ []) (done ∷ [])
+  pub counted : IsFit g new → IsCounted g old new (kept_book g old) (batch ∷ []) (done ∷ [])
   pub told : IsToldOf done result
 
 -- That, or nothing was done for want of memory, and they are answered so.

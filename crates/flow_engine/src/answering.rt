@@ -245,7 +245,10 @@ impl<S: Alter> Engine<S> {
 impl<S: Alter> Answering for Engine<S> {
     ghost use Rattle.flow_commit.specs.Keeping.{rules, kept_book};
     ghost use Rattle.flow_engine.specs.Answering.{IsSure, HasStopped};
+    ghost use Rattle.flow_engine.specs.Counting.{HasOtherCause};
     ghost use Rattle.flow_engine.specs.Following.{Succeeds, succeeds_self, gives_up_still, gives_up_since};
+    ghost use Rattle.flow_engine.specs.Following.{failures_still, excused_or_failed, excuses_still, excuses_since};
+    ghost use Rattle.flow_tables.specs.Owned.{state_of};
     ghost use Rattle.flow_engine.specs.GivingUp.{GivesUp};
 
     ghost rules = { rules };
@@ -258,6 +261,10 @@ impl<S: Alter> Answering for Engine<S> {
 
     ghost gives_up = { λ a e b cs k. GivesUp S.Store a e b cs k };
 
+    ghost failures = { λ e. (state_of S.Store e.stored).faults };
+
+    ghost excuses = { λ a e b cs. HasOtherCause S.Store a e b cs };
+
     ghost stops = { λ a e b cs stop. HasStopped a e stop };
 
     ghost follows_self = { λ a. succeeds_self _ a };
@@ -265,6 +272,14 @@ impl<S: Alter> Answering for Engine<S> {
     ghost gives_up_still = { λ a b c k cs code. gives_up_still _ a b c k cs code };
 
     ghost gives_up_since = { λ a b c k cs code. gives_up_since _ a b c k cs code };
+
+    ghost failures_still = { λ a b. failures_still _ a b };
+
+    ghost excused_or_failed = { λ a b k cs. excused_or_failed _ a b k cs };
+
+    ghost excuses_still = { λ a b c k cs. excuses_still _ a b c k cs };
+
+    ghost excuses_since = { λ a b c k cs. excuses_since _ a b c k cs };
 
     fn answer(&mut self, command: Command) -> Result<Answer, Stop> {
         Engine::answer(self, command)

@@ -8,7 +8,7 @@ use Rattle.flow_base.specs.declared.command.Command.{Command}
 use Rattle.flow_model.specs.Apply.{Rules}
 use Rattle.flow_model.specs.Book.{Book}
 use Rattle.flow_lines.specs.Driving.{lines_of, written, answer_status, final_status, WritesBeginning}
-use Rattle.flow_lines.specs.Answering.{Part, Lone, Applied, GivenUp, IsCut, AreParts, FirstLine, Answered, AllAnswered, StatusWithin, StopsAtPart, StopsBetween, StopsNext, StopsWithin, TellsPart, WritesFront, WritesPart, WritesSome, answers_by, answers_in, book_behind, book_by, commands_in, lines_by, lines_in}
+use Rattle.flow_lines.specs.Answering.{Part, Lone, Applied, GivenUp, IsCut, AreParts, FirstLine, Answered, AllAnswered, IsPart, StatusWithin, StopsAtPart, StopsAtSome, StopsBetween, StopsNext, StopsWithin, TellsPart, WritesFront, WritesPart, WritesSome, answers_by, answers_in, book_behind, book_by, commands_in, lines_by, lines_in}
 use Rattle.flow_lines.specs.Commands.{line_command}
 use Rattle.flow_lines.specs.Faults.{fault_of_stop}
 use Rattle.flow_lines.specs.Replies.{line_text}
@@ -145,68 +145,96 @@ module _ (u : Rules) (given_up : Book → List Command → Code → Type 0) wher
   -- ---- what is left of a part
 
   -- of its answers some were written
-  pub part_written : (stops : Book → List Command → Stop → Type 0) (e : Fault) (b b1 : Book) (lines : List (List ℕ)) (old new : Option (List ℕ)) → TellsPart u given_up b b1 lines (λ answers. WritesSome e old new answers) → StopsAtPart u given_up stops e b b1 lines old new
+  pub part_written : (stops : Book → List Command → Stop → Type 0) (e : Fault) (b b1 : Book) (lines : List (List ℕ)) (old new : Option (List ℕ)) → TellsPart u given_up b b1 lines (λ answers. WritesSome e old new answers) → StopsAtSome u given_up stops e b b1 lines old new
   part_written stops e b b1 lines old new t =
-      some_by e old new (answers_by u b t.part) (λ f. StopsAtPart u given_up stops f b b1 lines old new) t.told
-      (λ front. record { part = t.part; lines_are = t.lines_are; part_is = t.part_is; book_is = t.book_is; told = front })
-      (λ some. record { part = t.part; lines_are = t.lines_are; part_is = t.part_is; book_is = t.book_is; told = some })
+      some_by e old new (answers_by u b t.part) (λ f. StopsAtSome u given_up stops f b b1 lines old new) t.told
+      (λ front. (t.part ∷ [], (record { part = t.part; lines_are = t.lines_are; part_is = t.part_is; book_is = t.book_is; told = front }, refl)))
+      (λ some. (t.part ∷ [], (record { part = t.part; lines_are = t.lines_are; part_is = t.part_is; book_is = t.book_is; told = some }, refl)))
 
   -- its commands have no answer
-  pub none_replied : (stops : Book → List Command → Stop → Type 0) (b b1 : Book) (lines : List (List ℕ)) (out : Option (List ℕ)) (s : Stop) → stops b (commands_in lines) s → StopsAtPart u given_up stops (fault_of_stop s) b b1 lines out out
-  none_replied stops b b1 lines out stop.Unknown is = (is, keeps_self out)
-  none_replied stops b b1 lines out stop.Halted is = (is, keeps_self out)
+  pub none_replied : (stops : Book → List Command → Stop → Type 0) (b b1 : Book) (lines : List (List ℕ)) (out : Option (List ℕ)) (s : Stop) → stops b (commands_in lines) s → StopsAtSome u given_up stops (fault_of_stop s) b b1 lines out out
+  none_replied stops b b1 lines out stop.Unknown is = ([], (refl, (is, keeps_self out)))
+  none_replied stops b b1 lines out stop.Halted is = ([], (refl, (is, keeps_self out)))
 
-  module _ (cut : List (List ℕ) → List (List ℕ) → Type 0) where
+  -- what holds of no part, and of one with its cause, holds of the part where it ends
+  part_so : (so : List Part → Type 0) (here : List Part) (p : Part) → so (p ∷ []) → here ≡ p ∷ [] → so here
+  part_so so here p is same = subst so (sym same) is
+
+  none_so : (so : List Part → Type 0) (here : List Part) → so [] → here ≡ [] → so here
+  none_so so here none same = subst so (sym same) none
+
+  pub here_so : (so : List Part → Type 0) (stops : Book → List Command → Stop → Type 0) (f : Fault) (here : List Part) (b b1 : Book) (lines : List (List ℕ)) (old new : Option (List ℕ)) → so [] → ((p : Part) → IsPart given_up b p → so (p ∷ [])) → StopsAtPart u given_up stops f here b b1 lines old new → so here
+  here_so so stops (fault.NoMemory _) here b b1 lines old new none one h = part_so so here h.0.part (one h.0.part h.0.part_is) h.1
+  here_so so stops (fault.Mismatch run place name) here b b1 lines old new none one h = absurd h
+  here_so so stops fault.NoRun here b b1 lines old new none one h = absurd h
+  here_so so stops fault.StoreRefused here b b1 lines old new none one h = absurd h
+  here_so so stops fault.NotOurs here b b1 lines old new none one h = absurd h
+  here_so so stops fault.BadVersion here b b1 lines old new none one h = absurd h
+  here_so so stops (fault.Damaged d) here b b1 lines old new none one h = absurd h
+  here_so so stops fault.Unknown here b b1 lines old new none one h = none_so so here none h.0
+  here_so so stops fault.Halted here b b1 lines old new none one h = none_so so here none h.0
+  here_so so stops fault.NoFile here b b1 lines old new none one h = absurd h
+  here_so so stops fault.InputFailed here b b1 lines old new none one h = absurd h
+  here_so so stops fault.OutputFailed here b b1 lines old new none one h = part_so so here h.0.part (one h.0.part h.0.part_is) h.1
+  here_so so stops fault.BadSettings here b b1 lines old new none one h = absurd h
+  here_so so stops fault.BadUsage here b b1 lines old new none one h = absurd h
+
+  module _ (counted : Book → List Part → Type 0) (cut : List (List ℕ) → List (List ℕ) → Type 0) where
     -- ---- lines that were answered
 
     -- nothing is answered yet
-    pub begins : (b : Book) (known old : Option (List ℕ)) → IfSome known (λ bytes. Answered u given_up cut b b bytes known old old 0)
-    begins b None old = tt
-    begins b (Some bytes) old = record {
+    pub begins : (b : Book) (known old : Option (List ℕ)) → counted b [] → IfSome known (λ bytes. Answered u given_up counted cut b b bytes known old old 0)
+    begins b None old none = tt
+    begins b (Some bytes) old none = record {
       parts = [];
       rest = bytes;
       left_is = refl;
       lines_are = refl;
       parts_are = tt;
+      counted_is = none;
       book_is = refl;
       written_are = Appends-nil old;
       status_is = refl;
     }
 
     -- one line was answered that is no command
-    pub bad_answered : (b : Book) (known left old new : Option (List ℕ)) (found line : List ℕ) (n : ℕ) → IfSome known (λ bytes. FirstLine bytes found left) → line ≡ found → line_command line ≡ None → Appends old new (line_text a_line.Bad ++ 10 ∷ []) → n ≡ answer_status a_line.Bad → IfSome known (λ bytes. Answered u given_up cut b b bytes left old new n)
-    bad_answered b None left old new found line n first same bad adds is = tt
-    bad_answered b (Some bytes) left old new found line n first same bad adds is = record {
+    pub bad_answered : (b : Book) (known left old new : Option (List ℕ)) (found line : List ℕ) (n : ℕ) → IfSome known (λ bytes. FirstLine bytes found left) → line ≡ found → line_command line ≡ None → Appends old new (line_text a_line.Bad ++ 10 ∷ []) → n ≡ answer_status a_line.Bad → ((p : Part) → IsPart given_up b p → counted b (p ∷ [])) → IfSome known (λ bytes. Answered u given_up counted cut b b bytes left old new n)
+    bad_answered b None left old new found line n first same bad adds is one = tt
+    bad_answered b (Some bytes) left old new found line n first same bad adds is one = record {
       parts = Lone line ∷ [];
       rest = drop_through 10 bytes;
       left_is = first.left_is;
       lines_are = first.lines_are ∙ ap (λ l. l ∷ lines_of (drop_through 10 bytes)) (sym same);
       parts_are = (bad, (tt, tt));
+      counted_is = one (Lone line) bad;
       book_is = refl;
       written_are = subst (Appends old new) (sym (append-nil (line_text a_line.Bad ++ 10 ∷ []))) adds;
       status_is = is;
     }
 
-    joined : (b b1 b2 : Book) (bytes : List ℕ) (left left1 old new new1 : Option (List ℕ)) (n m k : ℕ) (f : Answered u given_up cut b b1 bytes left old new n) → Answered u given_up cut b1 b2 f.rest left1 new new1 m → k ≡ max n m → Answered u given_up cut b b2 bytes left1 old new1 k
-    joined b b1 b2 bytes left left1 old new new1 n m k f g is = record {
-      parts = f.parts ++ g.parts;
-      rest = g.rest;
-      left_is = g.left_is;
-      lines_are = lines_on (lines_of bytes) (lines_of f.rest) (lines_of g.rest) f.parts g.parts f.lines_are g.lines_are;
-      parts_are = parts_on cut b b1 f.parts g.parts (lines_of g.rest) f.book_is (subst (AreParts u given_up cut b f.parts) g.lines_are f.parts_are) g.parts_are;
-      book_is = g.book_is ∙ book_on u b b1 f.parts g.parts f.book_is;
-      written_are = written_on u b b1 f.parts g.parts old new new1 f.book_is f.written_are g.written_are;
-      status_is = status_on u b b1 f.parts g.parts n m k f.book_is f.status_is g.status_is is;
-    }
+    -- of two lists of parts, the ones behind the others, this is known
+    module _ (before since : Book → List Part → Type 0) (add : (b b1 : Book) (ps qs : List Part) → b1 ≡ book_behind u b ps → before b ps → since b1 qs → counted b (ps ++ qs)) where
+      joined : (b b1 b2 : Book) (bytes : List ℕ) (left left1 old new new1 : Option (List ℕ)) (n m k : ℕ) (f : Answered u given_up before cut b b1 bytes left old new n) → Answered u given_up since cut b1 b2 f.rest left1 new new1 m → k ≡ max n m → Answered u given_up counted cut b b2 bytes left1 old new1 k
+      joined b b1 b2 bytes left left1 old new new1 n m k f g is = record {
+        parts = f.parts ++ g.parts;
+        rest = g.rest;
+        left_is = g.left_is;
+        lines_are = lines_on (lines_of bytes) (lines_of f.rest) (lines_of g.rest) f.parts g.parts f.lines_are g.lines_are;
+        parts_are = parts_on cut b b1 f.parts g.parts (lines_of g.rest) f.book_is (subst (AreParts u given_up cut b f.parts) g.lines_are f.parts_are) g.parts_are;
+        counted_is = add b b1 f.parts g.parts f.book_is f.counted_is g.counted_is;
+        book_is = g.book_is ∙ book_on u b b1 f.parts g.parts f.book_is;
+        written_are = written_on u b b1 f.parts g.parts old new new1 f.book_is f.written_are g.written_are;
+        status_is = status_on u b b1 f.parts g.parts n m k f.book_is f.status_is g.status_is is;
+      }
 
-    -- and then some more
-    pub goes_on : (b b1 b2 : Book) (known left left1 old new new1 : Option (List ℕ)) (n m k : ℕ) → IfSome known (λ bytes. Answered u given_up cut b b1 bytes left old new n) → IfSome left (λ bytes. Answered u given_up cut b1 b2 bytes left1 new new1 m) → k ≡ max n m → IfSome known (λ bytes. Answered u given_up cut b b2 bytes left1 old new1 k)
-    goes_on b b1 b2 None left left1 old new new1 n m k f g is = tt
-    goes_on b b1 b2 (Some bytes) left left1 old new new1 n m k f g is =
-        joined b b1 b2 bytes left left1 old new new1 n m k f (subst (λ k. IfSome k (λ bytes. Answered u given_up cut b1 b2 bytes left1 new new1 m)) f.left_is g) is
+      -- and then some more
+      pub goes_on : (b b1 b2 : Book) (known left left1 old new new1 : Option (List ℕ)) (n m k : ℕ) → IfSome known (λ bytes. Answered u given_up before cut b b1 bytes left old new n) → IfSome left (λ bytes. Answered u given_up since cut b1 b2 bytes left1 new new1 m) → k ≡ max n m → IfSome known (λ bytes. Answered u given_up counted cut b b2 bytes left1 old new1 k)
+      goes_on b b1 b2 None left left1 old new new1 n m k f g is = tt
+      goes_on b b1 b2 (Some bytes) left left1 old new new1 n m k f g is =
+          joined b b1 b2 bytes left left1 old new new1 n m k f (subst (λ k. IfSome k (λ bytes. Answered u given_up since cut b1 b2 bytes left1 new new1 m)) f.left_is g) is
 
     -- at the end of the input
-    pub all_answered : (b b1 : Book) (known left old new : Option (List ℕ)) (n : ℕ) → IfSome known (λ bytes. Answered u given_up cut b b1 bytes left old new n) → IfSome left (λ rest. rest ≡ []) → IfSome known (λ bytes. AllAnswered u given_up cut b b1 (lines_of bytes) old new n)
+    pub all_answered : (b b1 : Book) (known left old new : Option (List ℕ)) (n : ℕ) → IfSome known (λ bytes. Answered u given_up counted cut b b1 bytes left old new n) → IfSome left (λ rest. rest ≡ []) → IfSome known (λ bytes. AllAnswered u given_up counted cut b b1 (lines_of bytes) old new n)
     all_answered b b1 None left old new n f end = tt
     all_answered b b1 (Some bytes) left old new n f end =
         let none : f.rest ≡ [] = subst (λ k. IfSome k (λ rest. rest ≡ [])) f.left_is end in
@@ -214,6 +242,7 @@ module _ (u : Rules) (given_up : Book → List Command → Code → Type 0) wher
           parts = f.parts;
           lines_are = f.lines_are ∙ ap (λ r. lines_in f.parts ++ lines_of r) none ∙ append-nil (lines_in f.parts);
           parts_are = subst (λ r. AreParts u given_up cut b f.parts (lines_of r)) none f.parts_are;
+          counted_is = f.counted_is;
           book_is = f.book_is;
           written_are = f.written_are;
           status_is = f.status_is;
@@ -223,54 +252,69 @@ module _ (u : Rules) (given_up : Book → List Command → Code → Type 0) wher
 
     module _ (stops : Book → List Command → Stop → Type 0) where
       -- nothing was answered
-      pub none_answered : (b : Book) (e : Fault) (whole : List (List ℕ)) (out : Option (List ℕ)) → StopsBetween e → StopsWithin u given_up stops cut b b e whole out out
-      none_answered b e whole out between =
-          record { parts = []; later = whole; out = out; lines_are = refl; parts_are = tt; written_are = Appends-nil out; ends = inl (between, (refl, keeps_self out)) }
+      pub none_answered : (b : Book) (e : Fault) (whole : List (List ℕ)) (out : Option (List ℕ)) → StopsBetween e → counted b [] → StopsWithin u given_up counted stops cut b b e whole out out
+      none_answered b e whole out between none =
+          record { parts = []; later = whole; out = out; lines_are = refl; parts_are = tt; here = []; counted_is = none; written_are = Appends-nil out; ends = inl (between, (refl, (refl, keeps_self out))) }
 
       -- it ended in the first part
-      pub first_stops : (b b1 : Book) (e : Fault) (whole next rest : List (List ℕ)) (old new : Option (List ℕ)) → whole ≡ next ++ rest → cut next rest → StopsAtPart u given_up stops e b b1 next old new → StopsWithin u given_up stops cut b b1 e whole old new
-      first_stops b b1 e whole next rest old new lines is at =
-          record { parts = []; later = whole; out = old; lines_are = refl; parts_are = tt; written_are = Appends-nil old; ends = inr (record { next = next; rest = rest; lines_are = lines; cut_is = inl is; stops_at = at }) }
+      pub first_stops : (b b1 : Book) (e : Fault) (whole next rest : List (List ℕ)) (old new : Option (List ℕ)) → whole ≡ next ++ rest → cut next rest → StopsAtSome u given_up stops e b b1 next old new → counted b [] → ((p : Part) → IsPart given_up b p → counted b (p ∷ [])) → StopsWithin u given_up counted stops cut b b1 e whole old new
+      first_stops b b1 e whole next rest old new lines is at none one = record {
+        parts = [];
+        later = whole;
+        out = old;
+        lines_are = refl;
+        parts_are = tt;
+        here = at.0;
+        counted_is = here_so (counted b) stops e at.0 b b1 next old new none one at.1;
+        written_are = Appends-nil old;
+        ends = inr (record { next = next; rest = rest; lines_are = lines; cut_is = inl is; stops_at = at.1 });
+      }
 
       -- the answer to a line that is no command wasn't all written
-      pub bad_stops : (b : Book) (e : Fault) (whole rest : List (List ℕ)) (old new : Option (List ℕ)) (line : List ℕ) → whole ≡ line ∷ rest → line_command line ≡ None → WritesPart e old new (line_text a_line.Bad ++ 10 ∷ []) → StopsWithin u given_up stops cut b b e whole old new
-      bad_stops b e whole rest old new line lines bad w =
-          part_by e old new (line_text a_line.Bad ++ 10 ∷ []) (λ f. StopsWithin u given_up stops cut b b f whole old new) w
-          (λ kept. record { parts = []; later = whole; out = old; lines_are = refl; parts_are = tt; written_are = Appends-nil old; ends = inl (inl refl, (refl, kept)) })
+      pub bad_stops : (b : Book) (e : Fault) (whole rest : List (List ℕ)) (old new : Option (List ℕ)) (line : List ℕ) → whole ≡ line ∷ rest → line_command line ≡ None → WritesPart e old new (line_text a_line.Bad ++ 10 ∷ []) → counted b [] → ((p : Part) → IsPart given_up b p → counted b (p ∷ [])) → StopsWithin u given_up counted stops cut b b e whole old new
+      bad_stops b e whole rest old new line lines bad w none one =
+          part_by e old new (line_text a_line.Bad ++ 10 ∷ []) (λ f. StopsWithin u given_up counted stops cut b b f whole old new) w
+          (λ kept. record { parts = []; later = whole; out = old; lines_are = refl; parts_are = tt; here = []; counted_is = none; written_are = Appends-nil old; ends = inl (inl refl, (refl, (refl, kept))) })
           (λ begun. record {
             parts = [];
             later = whole;
             out = old;
             lines_are = refl;
             parts_are = tt;
+            here = Lone line ∷ [];
+            counted_is = one (Lone line) bad;
             written_are = Appends-nil old;
             ends = inr (record {
               next = line ∷ [];
               rest = rest;
               lines_are = lines;
               cut_is = inr (line, (refl, bad));
-              stops_at = record { part = Lone line; lines_are = refl; part_is = bad; book_is = refl; told = subst (WritesBeginning old new) (sym (append-nil (line_text a_line.Bad ++ 10 ∷ []))) begun };
+              stops_at = (record { part = Lone line; lines_are = refl; part_is = bad; book_is = refl; told = subst (WritesBeginning old new) (sym (append-nil (line_text a_line.Bad ++ 10 ∷ []))) begun }, refl);
             });
           })
 
-      pub bad_written : (b : Book) (e : Fault) (known left old new : Option (List ℕ)) (found line : List ℕ) → IfSome known (λ bytes. FirstLine bytes found left) → line ≡ found → line_command line ≡ None → WritesPart e old new (line_text a_line.Bad ++ 10 ∷ []) → IfSome known (λ bytes. StopsWithin u given_up stops cut b b e (lines_of bytes) old new)
-      bad_written b e None left old new found line first same bad w = tt
-      bad_written b e (Some bytes) left old new found line first same bad w =
-          bad_stops b e (lines_of bytes) (lines_of (drop_through 10 bytes)) old new line (first.lines_are ∙ ap (λ l. l ∷ lines_of (drop_through 10 bytes)) (sym same)) bad w
+      pub bad_written : (b : Book) (e : Fault) (known left old new : Option (List ℕ)) (found line : List ℕ) → IfSome known (λ bytes. FirstLine bytes found left) → line ≡ found → line_command line ≡ None → WritesPart e old new (line_text a_line.Bad ++ 10 ∷ []) → counted b [] → ((p : Part) → IsPart given_up b p → counted b (p ∷ []))
+          → IfSome known (λ bytes. StopsWithin u given_up counted stops cut b b e (lines_of bytes) old new)
+      bad_written b e None left old new found line first same bad w none one = tt
+      bad_written b e (Some bytes) left old new found line first same bad w none one =
+          bad_stops b e (lines_of bytes) (lines_of (drop_through 10 bytes)) old new line (first.lines_are ∙ ap (λ l. l ∷ lines_of (drop_through 10 bytes)) (sym same)) bad w none one
 
-      stops_behind : (b b1 b2 : Book) (e : Fault) (bytes : List ℕ) (left old new new1 : Option (List ℕ)) (n : ℕ) (f : Answered u given_up cut b b1 bytes left old new n) → StopsWithin u given_up stops cut b1 b2 e (lines_of f.rest) new new1 → StopsWithin u given_up stops cut b b2 e (lines_of bytes) old new1
-      stops_behind b b1 b2 e bytes left old new new1 n f w = record {
-        parts = f.parts ++ w.parts;
-        later = w.later;
-        out = w.out;
-        lines_are = lines_on (lines_of bytes) (lines_of f.rest) w.later f.parts w.parts f.lines_are w.lines_are;
-        parts_are = parts_on cut b b1 f.parts w.parts w.later f.book_is (subst (AreParts u given_up cut b f.parts) w.lines_are f.parts_are) w.parts_are;
-        written_are = written_on u b b1 f.parts w.parts old new w.out f.book_is f.written_are w.written_are;
-        ends = subst (λ x. StopsNext u given_up stops cut e x b2 w.later w.out new1) (book_on u b b1 f.parts w.parts f.book_is) w.ends;
-      }
+      module _ (before since : Book → List Part → Type 0) (add : (b b1 : Book) (ps qs : List Part) → b1 ≡ book_behind u b ps → before b ps → since b1 qs → counted b (ps ++ qs)) where
+        stops_behind : (b b1 b2 : Book) (e : Fault) (bytes : List ℕ) (left old new new1 : Option (List ℕ)) (n : ℕ) (f : Answered u given_up before cut b b1 bytes left old new n) → StopsWithin u given_up since stops cut b1 b2 e (lines_of f.rest) new new1 → StopsWithin u given_up counted stops cut b b2 e (lines_of bytes) old new1
+        stops_behind b b1 b2 e bytes left old new new1 n f w = record {
+          parts = f.parts ++ w.parts;
+          later = w.later;
+          out = w.out;
+          lines_are = lines_on (lines_of bytes) (lines_of f.rest) w.later f.parts w.parts f.lines_are w.lines_are;
+          parts_are = parts_on cut b b1 f.parts w.parts w.later f.book_is (subst (AreParts u given_up cut b f.parts) w.lines_are f.parts_are) w.parts_are;
+          here = w.here;
+          counted_is = subst (counted b) (sym (append_assoc f.parts w.parts w.here)) (add b b1 f.parts (w.parts ++ w.here) f.book_is f.counted_is w.counted_is);
+          written_are = written_on u b b1 f.parts w.parts old new w.out f.book_is f.written_are w.written_are;
+          ends = subst (λ x. StopsNext u given_up stops cut e w.here x b2 w.later w.out new1) (book_on u b b1 f.parts w.parts f.book_is) w.ends;
+        }
 
-      -- what stops the lines behind stops them all
-      pub stops_later : (b b1 b2 : Book) (e : Fault) (known left old new new1 : Option (List ℕ)) (n : ℕ) → IfSome known (λ bytes. Answered u given_up cut b b1 bytes left old new n) → IfSome left (λ bytes. StopsWithin u given_up stops cut b1 b2 e (lines_of bytes) new new1) → IfSome known (λ bytes. StopsWithin u given_up stops cut b b2 e (lines_of bytes) old new1)
-      stops_later b b1 b2 e None left old new new1 n f w = tt
-      stops_later b b1 b2 e (Some bytes) left old new new1 n f w =
-          stops_behind b b1 b2 e bytes left old new new1 n f (subst (λ k. IfSome k (λ bytes. StopsWithin u given_up stops cut b1 b2 e (lines_of bytes) new new1)) f.left_is w)
+        -- what stops the lines behind stops them all
+        pub stops_later : (b b1 b2 : Book) (e : Fault) (known left old new new1 : Option (List ℕ)) (n : ℕ) → IfSome known (λ bytes. Answered u given_up before cut b b1 bytes left old new n) → IfSome left (λ bytes. StopsWithin u given_up since stops cut b1 b2 e (lines_of bytes) new new1) → IfSome known (λ bytes. StopsWithin u given_up counted stops cut b b2 e (lines_of bytes) old new1)
+        stops_later b b1 b2 e None left old new new1 n f w = tt
+        stops_later b b1 b2 e (Some bytes) left old new new1 n f w =
+            stops_behind b b1 b2 e bytes left old new new1 n f (subst (λ k. IfSome k (λ bytes. StopsWithin u given_up since stops cut b1 b2 e (lines_of bytes) new new1)) f.left_is w)

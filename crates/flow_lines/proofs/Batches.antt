@@ -13,7 +13,7 @@ use Rattle.flow_base.specs.declared.fault.Fault.{Fault}
 use Rattle.flow_model.specs.Book.{Book}
 use Rattle.flow_model.specs.Answers.{IsGivenUp}
 use Rattle.flow_model.specs.declared.answer.Stop.{Stop}
-use Rattle.flow_lines.specs.Answering.{Applied, GivenUp, FirstLine, Answered, BatchAnswered, EndsFull, EndsNext, Gathered, HasEnded, HasFew, HasOneMore, HoldsLines, IsBatch, IsFilled, IsFull, OfBatch, ReadAs, StatusWithin, StopsAtPart, StopsBetween, StopsWithin, TellsPart, WritesAll, WritesPart, WritesSome, all_applied, all_given_up, answers_by, are_commands, commands_in, last_or, lines_by, lines_told, marked, with_command}
+use Rattle.flow_lines.specs.Answering.{Part, Applied, GivenUp, IsPart, FirstLine, Answered, BatchAnswered, EndsFull, EndsNext, Gathered, HasEnded, HasFew, HasOneMore, HoldsLines, IsBatch, IsFilled, IsFull, OfBatch, ReadAs, StatusWithin, StopsAtSome, StopsBetween, StopsWithin, TellsPart, WritesAll, WritesPart, WritesSome, all_applied, all_given_up, answers_by, are_commands, commands_in, last_or, lines_by, lines_told, marked, with_command}
 use Rattle.flow_lines.specs.Commands.{line_command}
 use Rattle.flow_lines.specs.Driving.{lines_of, written, answer_status, final_status}
 use Rattle.flow_lines.specs.Replies.{line_text}
@@ -99,25 +99,25 @@ module _ (u : Rules) (given_up : Book → List Command → Code → Type 0) wher
         tells = all (first ∷ g.lines) holds;
       }
 
-  pub stops_batch : (stops : Book → List Command → Stop → Type 0) (most : ℕ) (b b1 : Book) (e : Fault) (c : Command) (commands : List Command) (marks : List Bool) (known left old new : Option (List ℕ)) → Gathered (c ∷ []) commands (true ∷ []) marks known left → 1 ≤ length commands → length commands ≤ most → EndsFull most commands marks → IsFilled most commands marks known left
-      → ((ls : List (List ℕ)) → HoldsLines ls commands marks → StopsAtPart u given_up stops e b b1 ls old new) → IfSome known (λ bytes. (first : List ℕ) → line_command first ≡ Some c → StopsWithin u given_up stops (IsFull most) b b1 e (first ∷ lines_of bytes) old new)
-  stops_batch stops most b b1 e c commands marks None left old new g some few last filled ends = tt
-  stops_batch stops most b b1 e c commands marks (Some bytes) left old new g some few last filled ends = λ first given.
+  pub stops_batch : (counted : Book → List Part → Type 0) (stops : Book → List Command → Stop → Type 0) (most : ℕ) (b b1 : Book) (e : Fault) (c : Command) (commands : List Command) (marks : List Bool) (known left old new : Option (List ℕ)) → Gathered (c ∷ []) commands (true ∷ []) marks known left → 1 ≤ length commands → length commands ≤ most → EndsFull most commands marks → IsFilled most commands marks known left
+      → ((ls : List (List ℕ)) → HoldsLines ls commands marks → StopsAtSome u given_up stops e b b1 ls old new) → counted b [] → ((p : Part) → IsPart given_up b p → counted b (p ∷ [])) → IfSome known (λ bytes. (first : List ℕ) → line_command first ≡ Some c → StopsWithin u given_up counted stops (IsFull most) b b1 e (first ∷ lines_of bytes) old new)
+  stops_batch counted stops most b b1 e c commands marks None left old new g some few last filled ends none one = tt
+  stops_batch counted stops most b b1 e c commands marks (Some bytes) left old new g some few last filled ends none one = λ first given.
       let holds = holds_first first c commands marks (Some bytes) left g given in
-      first_stops u given_up (IsFull most) stops b b1 e (first ∷ lines_of bytes) (first ∷ g.lines) (lines_of g.read.rest) old new (ap (λ l. first ∷ l) g.read.lines_are)
-      (is_full most first c commands marks given some few last g.lines left g.read.rest holds g.read.left_is filled) (ends (first ∷ g.lines) holds)
+      first_stops u given_up counted (IsFull most) stops b b1 e (first ∷ lines_of bytes) (first ∷ g.lines) (lines_of g.read.rest) old new (ap (λ l. first ∷ l) g.read.lines_are)
+      (is_full most first c commands marks given some few last g.lines left g.read.rest holds g.read.left_is filled) (ends (first ∷ g.lines) holds) none one
 
   module _ (cut : List (List ℕ) → List (List ℕ) → Type 0) where
     -- nothing of a batch is answered that wasn't begun
-    pub none_begun : (stops : Book → List Command → Stop → Type 0) (b : Book) (e : Fault) (c : Command) (known out : Option (List ℕ)) → StopsBetween e → IfSome known (λ bytes. (first : List ℕ) → line_command first ≡ Some c → StopsWithin u given_up stops cut b b e (first ∷ lines_of bytes) out out)
-    none_begun stops b e c None out between = tt
-    none_begun stops b e c (Some bytes) out between = λ first given. none_answered u given_up cut stops b e (first ∷ lines_of bytes) out between
+    pub none_begun : (counted : Book → List Part → Type 0) (stops : Book → List Command → Stop → Type 0) (b : Book) (e : Fault) (c : Command) (known out : Option (List ℕ)) → StopsBetween e → counted b [] → IfSome known (λ bytes. (first : List ℕ) → line_command first ≡ Some c → StopsWithin u given_up counted stops cut b b e (first ∷ lines_of bytes) out out)
+    none_begun counted stops b e c None out between none = tt
+    none_begun counted stops b e c (Some bytes) out between none = λ first given. none_answered u given_up counted cut stops b e (first ∷ lines_of bytes) out between none
 
     -- the batch's lines are the first ones
-    pub next_batch : (b b1 : Book) (known left left1 old new : Option (List ℕ)) (found line : List ℕ) (c : Command) (n : ℕ) → IfSome known (λ bytes. FirstLine bytes found left) → line ≡ found → line_command line ≡ Some c → IfSome left (λ bytes. (first : List ℕ) → line_command first ≡ Some c → BatchAnswered u given_up cut b b1 first bytes left1 old new n)
-        → IfSome known (λ bytes. Answered u given_up cut b b1 bytes left1 old new n)
-    next_batch b b1 None left left1 old new found line c n first same given batch = tt
-    next_batch b b1 (Some bytes) left left1 old new found line c n first same given batch =
+    pub next_batch : (counted : Book → List Part → Type 0) (b b1 : Book) (known left left1 old new : Option (List ℕ)) (found line : List ℕ) (c : Command) (n : ℕ) → IfSome known (λ bytes. FirstLine bytes found left) → line ≡ found → line_command line ≡ Some c → IfSome left (λ bytes. (first : List ℕ) → line_command first ≡ Some c → BatchAnswered u given_up cut b b1 first bytes left1 old new n)
+        → ((p : Part) → IsPart given_up b p → counted b (p ∷ [])) → IfSome known (λ bytes. Answered u given_up counted cut b b1 bytes left1 old new n)
+    next_batch counted b b1 None left left1 old new found line c n first same given batch one = tt
+    next_batch counted b b1 (Some bytes) left left1 old new found line c n first same given batch one =
         let its = subst (λ k. IfSome k (λ rest. (l : List ℕ) → line_command l ≡ Some c → BatchAnswered u given_up cut b b1 l rest left1 old new n)) first.left_is batch line given in
         let p = its.tells.part in
         record {
@@ -128,17 +128,18 @@ module _ (u : Rules) (given_up : Book → List Command → Code → Type 0) wher
               first.lines_are ∙ ap (λ l. l ∷ lines_of (drop_through 10 bytes)) (sym same) ∙ ap (λ l. line ∷ l) its.lines_are
               ∙ ap (λ l. l ++ lines_of its.rest) (its.tells.lines_are ∙ sym (append-nil (lines_by p)));
           parts_are = (its.tells.part_is, (as_cut cut p (line ∷ its.lines) (lines_of its.rest) its.tells.lines_are its.cut_is, tt));
+          counted_is = one p its.tells.part_is;
           book_is = its.tells.book_is;
           written_are = subst (λ l. Appends old new (written l)) (sym (append-nil (answers_by u b p))) its.tells.told.written_are;
           status_is = its.tells.told.status_is ∙ ap final_status (sym (append-nil (answers_by u b p)));
         }
 
-    pub next_stops : (stops : Book → List Command → Stop → Type 0) (b b1 : Book) (e : Fault) (known left old new : Option (List ℕ)) (found line : List ℕ) (c : Command) → IfSome known (λ bytes. FirstLine bytes found left) → line ≡ found → line_command line ≡ Some c → IfSome left (λ bytes. (first : List ℕ) → line_command first ≡ Some c → StopsWithin u given_up stops cut b b1 e (first ∷ lines_of bytes) old new)
-        → IfSome known (λ bytes. StopsWithin u given_up stops cut b b1 e (lines_of bytes) old new)
-    next_stops stops b b1 e None left old new found line c first same given ends = tt
-    next_stops stops b b1 e (Some bytes) left old new found line c first same given ends =
-        let its = subst (λ k. IfSome k (λ rest. (l : List ℕ) → line_command l ≡ Some c → StopsWithin u given_up stops cut b b1 e (l ∷ lines_of rest) old new)) first.left_is ends line given in
-        subst (λ l. StopsWithin u given_up stops cut b b1 e l old new) (sym (first.lines_are ∙ ap (λ l. l ∷ lines_of (drop_through 10 bytes)) (sym same))) its
+    pub next_stops : (counted : Book → List Part → Type 0) (stops : Book → List Command → Stop → Type 0) (b b1 : Book) (e : Fault) (known left old new : Option (List ℕ)) (found line : List ℕ) (c : Command) → IfSome known (λ bytes. FirstLine bytes found left) → line ≡ found → line_command line ≡ Some c → IfSome left (λ bytes. (first : List ℕ) → line_command first ≡ Some c → StopsWithin u given_up counted stops cut b b1 e (first ∷ lines_of bytes) old new)
+        → IfSome known (λ bytes. StopsWithin u given_up counted stops cut b b1 e (lines_of bytes) old new)
+    next_stops counted stops b b1 e None left old new found line c first same given ends = tt
+    next_stops counted stops b b1 e (Some bytes) left old new found line c first same given ends =
+        let its = subst (λ k. IfSome k (λ rest. (l : List ℕ) → line_command l ≡ Some c → StopsWithin u given_up counted stops cut b b1 e (l ∷ lines_of rest) old new)) first.left_is ends line given in
+        subst (λ l. StopsWithin u given_up counted stops cut b b1 e l old new) (sym (first.lines_are ∙ ap (λ l. l ∷ lines_of (drop_through 10 bytes)) (sym same))) its
 
     come_next : (b : Book) (known left : Option (List ℕ)) (found line : List ℕ) (c : Command) (commands : List Command) → IfSome known (λ bytes. FirstLine bytes found left) → line ≡ found → line_command line ≡ Some c → IfSome left (λ bytes. BeginWith c bytes commands)
         → IfSome known (λ bytes. ComeNext u given_up cut b bytes b commands)

@@ -8,10 +8,9 @@ use Rattle.flow_model.specs.Apply.{Rules}
 use Rattle.flow_model.specs.Book.{Book}
 use Rattle.flow_model.specs.declared.answer.Stop.{Stop}
 use Rattle.flow_model.specs.declared.answer.Stop.TheVariants as stop
-use Rattle.flow_lines.specs.Answering.{Part, Lone, Applied, GivenUp, AreParts, Answered, IsPart, OfBatch, SomeAnswered, StatusWithin, StopsAmong, StopsAtPart, StopsNext, StopsWithin, TellsPart, book_behind, book_by, commands_in}
+use Rattle.flow_lines.specs.Answering.{Part, Lone, Applied, GivenUp, AreParts, Answered, IsPart, OfBatch, SomeAnswered, StatusWithin, StopsAmong, StopsAtPart, StopsNext, StopsWithin, book_behind, book_by, commands_in}
 use Rattle.flow_lines.specs.Driving.{lines_of}
 use Rattle.flow_lines.specs.Stopping.{CausedFault, ComeNext, StoppedBy}
-use Rattle.flow_lines.specs.declared.reply.Line.{Line}
 use Rattle.flow_lines.proofs.Stopping.{fault_by}
 
 -- this follows from a cause
@@ -36,64 +35,64 @@ module _ (one two : Book → List Command → Code → Type 0) (on : Gives one t
     parts_too b [] later h = tt
     parts_too b (p ∷ ps) later h = (part_too b p h.0, (h.1.0, parts_too (book_by u b p) ps later h.1.1))
 
-    pub answered_too : (b b1 : Book) (known left old new : Option (List ℕ)) (n : ℕ) → IfSome known (λ bytes. Answered u one cut b b1 bytes left old new n) → IfSome known (λ bytes. Answered u two cut b b1 bytes left old new n)
-    answered_too b b1 None left old new n h = tt
-    answered_too b b1 (Some bytes) left old new n h = record {
+    pub answered_too : (counted : Book → List Part → Type 0) (b b1 : Book) (known left old new : Option (List ℕ)) (n : ℕ) → IfSome known (λ bytes. Answered u one counted cut b b1 bytes left old new n) → IfSome known (λ bytes. Answered u two counted cut b b1 bytes left old new n)
+    answered_too counted b b1 None left old new n h = tt
+    answered_too counted b b1 (Some bytes) left old new n h = record {
       parts = h.parts;
       rest = h.rest;
       left_is = h.left_is;
       lines_are = h.lines_are;
       parts_are = parts_too b h.parts (lines_of h.rest) h.parts_are;
+      counted_is = h.counted_is;
       book_is = h.book_is;
       written_are = h.written_are;
       status_is = h.status_is;
     }
 
-    pub some_too : (b b1 : Book) (least n : ℕ) (old new : Option (List ℕ)) → SomeAnswered u one cut b b1 least old new n → SomeAnswered u two cut b b1 least old new n
-    some_too b b1 least n old new h = record { parts = h.parts; many = h.many; parts_are = parts_too b h.parts [] h.parts_are; book_is = h.book_is; written_are = h.written_are; status_is = h.status_is }
-
-    told_too : (b b1 : Book) (lines : List (List ℕ)) (tells : List Line → Type 0) → TellsPart u one b b1 lines tells → TellsPart u two b b1 lines tells
-    told_too b b1 lines tells h = record { part = h.part; lines_are = h.lines_are; part_is = part_too b h.part h.part_is; book_is = h.book_is; told = h.told }
+    pub some_too : (counted : Book → List Part → Type 0) (b b1 : Book) (least n : ℕ) (old new : Option (List ℕ)) → SomeAnswered u one counted cut b b1 least old new n → SomeAnswered u two counted cut b b1 least old new n
+    some_too counted b b1 least n old new h = record { parts = h.parts; many = h.many; parts_are = parts_too b h.parts [] h.parts_are; counted_is = h.counted_is; book_is = h.book_is; written_are = h.written_are; status_is = h.status_is }
 
     module _ (stops since : Book → List Command → Stop → Type 0) (gives : Gives stops since) where
-      at_too : (f : Fault) (b b1 : Book) (lines : List (List ℕ)) (old new : Option (List ℕ)) → StopsAtPart u one stops f b b1 lines old new → StopsAtPart u two since f b b1 lines old new
-      at_too (fault.NoMemory _) b b1 lines old new h = told_too b b1 lines _ h
-      at_too (fault.Mismatch run place name) b b1 lines old new h = h
-      at_too fault.NoRun b b1 lines old new h = h
-      at_too fault.StoreRefused b b1 lines old new h = h
-      at_too fault.NotOurs b b1 lines old new h = h
-      at_too fault.BadVersion b b1 lines old new h = h
-      at_too (fault.Damaged d) b b1 lines old new h = h
-      at_too fault.Unknown b b1 lines old new h = (gives b (commands_in lines) stop.Unknown h.0, h.1)
-      at_too fault.Halted b b1 lines old new h = (gives b (commands_in lines) stop.Halted h.0, h.1)
-      at_too fault.NoFile b b1 lines old new h = h
-      at_too fault.InputFailed b b1 lines old new h = h
-      at_too fault.OutputFailed b b1 lines old new h = told_too b b1 lines _ h
-      at_too fault.BadSettings b b1 lines old new h = h
-      at_too fault.BadUsage b b1 lines old new h = h
+      at_too : (f : Fault) (here : List Part) (b b1 : Book) (lines : List (List ℕ)) (old new : Option (List ℕ)) → StopsAtPart u one stops f here b b1 lines old new → StopsAtPart u two since f here b b1 lines old new
+      at_too (fault.NoMemory _) here b b1 lines old new h = (record { part = h.0.part; lines_are = h.0.lines_are; part_is = part_too b h.0.part h.0.part_is; book_is = h.0.book_is; told = h.0.told }, h.1)
+      at_too (fault.Mismatch run place name) here b b1 lines old new h = h
+      at_too fault.NoRun here b b1 lines old new h = h
+      at_too fault.StoreRefused here b b1 lines old new h = h
+      at_too fault.NotOurs here b b1 lines old new h = h
+      at_too fault.BadVersion here b b1 lines old new h = h
+      at_too (fault.Damaged d) here b b1 lines old new h = h
+      at_too fault.Unknown here b b1 lines old new h = (h.0, (gives b (commands_in lines) stop.Unknown h.1.0, h.1.1))
+      at_too fault.Halted here b b1 lines old new h = (h.0, (gives b (commands_in lines) stop.Halted h.1.0, h.1.1))
+      at_too fault.NoFile here b b1 lines old new h = h
+      at_too fault.InputFailed here b b1 lines old new h = h
+      at_too fault.OutputFailed here b b1 lines old new h = (record { part = h.0.part; lines_are = h.0.lines_are; part_is = part_too b h.0.part h.0.part_is; book_is = h.0.book_is; told = h.0.told }, h.1)
+      at_too fault.BadSettings here b b1 lines old new h = h
+      at_too fault.BadUsage here b b1 lines old new h = h
 
-      ends_too : (e : Fault) (b b1 : Book) (later : List (List ℕ)) (old new : Option (List ℕ)) → StopsNext u one stops cut e b b1 later old new → StopsNext u two since cut e b b1 later old new
-      ends_too e b b1 later old new (inl h) = inl h
-      ends_too e b b1 later old new (inr h) =
-          inr (record { next = h.next; rest = h.rest; lines_are = h.lines_are; cut_is = h.cut_is; stops_at = at_too e b b1 h.next old new h.stops_at })
+      ends_too : (e : Fault) (here : List Part) (b b1 : Book) (later : List (List ℕ)) (old new : Option (List ℕ)) → StopsNext u one stops cut e here b b1 later old new → StopsNext u two since cut e here b b1 later old new
+      ends_too e here b b1 later old new (inl h) = inl h
+      ends_too e here b b1 later old new (inr h) =
+          inr (record { next = h.next; rest = h.rest; lines_are = h.lines_are; cut_is = h.cut_is; stops_at = at_too e here b b1 h.next old new h.stops_at })
 
-      stops_within_too : (b b1 : Book) (e : Fault) (whole : List (List ℕ)) (old new : Option (List ℕ)) → StopsWithin u one stops cut b b1 e whole old new → StopsWithin u two since cut b b1 e whole old new
-      stops_within_too b b1 e whole old new h = record {
+      stops_within_too : (counted : Book → List Part → Type 0) (b b1 : Book) (e : Fault) (whole : List (List ℕ)) (old new : Option (List ℕ)) → StopsWithin u one counted stops cut b b1 e whole old new → StopsWithin u two counted since cut b b1 e whole old new
+      stops_within_too counted b b1 e whole old new h = record {
         parts = h.parts;
         later = h.later;
         out = h.out;
         lines_are = h.lines_are;
         parts_are = parts_too b h.parts h.later h.parts_are;
+        here = h.here;
+        counted_is = h.counted_is;
         written_are = h.written_are;
-        ends = ends_too e (book_behind u b h.parts) b1 h.later h.out new h.ends;
+        ends = ends_too e h.here (book_behind u b h.parts) b1 h.later h.out new h.ends;
       }
 
-      pub stops_too : (b b1 : Book) (e : Fault) (known old new : Option (List ℕ)) → IfSome known (λ bytes. StopsWithin u one stops cut b b1 e (lines_of bytes) old new) → IfSome known (λ bytes. StopsWithin u two since cut b b1 e (lines_of bytes) old new)
-      stops_too b b1 e None old new h = tt
-      stops_too b b1 e (Some bytes) old new h = stops_within_too b b1 e (lines_of bytes) old new h
+      pub stops_too : (counted : Book → List Part → Type 0) (b b1 : Book) (e : Fault) (known old new : Option (List ℕ)) → IfSome known (λ bytes. StopsWithin u one counted stops cut b b1 e (lines_of bytes) old new) → IfSome known (λ bytes. StopsWithin u two counted since cut b b1 e (lines_of bytes) old new)
+      stops_too counted b b1 e None old new h = tt
+      stops_too counted b b1 e (Some bytes) old new h = stops_within_too counted b b1 e (lines_of bytes) old new h
 
-      pub among_too : (b b1 : Book) (e : Fault) (old new : Option (List ℕ)) → StopsAmong u one stops cut b b1 e old new → StopsAmong u two since cut b b1 e old new
-      among_too b b1 e old new h = record { whole = h.whole; stops_are = stops_within_too b b1 e h.whole old new h.stops_are }
+      pub among_too : (counted : Book → List Part → Type 0) (b b1 : Book) (e : Fault) (old new : Option (List ℕ)) → StopsAmong u one counted stops cut b b1 e old new → StopsAmong u two counted since cut b b1 e old new
+      among_too counted b b1 e old new h = record { whole = h.whole; stops_are = stops_within_too counted b b1 e h.whole old new h.stops_are }
 
       next_too : (b book : Book) (cs : List Command) (known : Option (List ℕ)) → IfSome known (λ bytes. ComeNext u one cut b bytes book cs) → IfSome known (λ bytes. ComeNext u two cut b bytes book cs)
       next_too b book cs None h = tt

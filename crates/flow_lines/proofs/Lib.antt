@@ -9,6 +9,7 @@ pub mod Lines
 pub mod Answering
 pub mod Later
 pub mod Batches
+pub mod Counting
 pub mod SomeLines
 pub mod Stopping
 pub mod Asks

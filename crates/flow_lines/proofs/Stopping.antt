@@ -5,7 +5,7 @@ use Rattle.flow_base.specs.declared.command.Command.{Command}
 use Rattle.flow_model.specs.Apply.{Rules}
 use Rattle.flow_model.specs.Book.{Book}
 use Rattle.flow_lines.proofs.Answering.{book_on, lines_on, parts_on}
-use Rattle.flow_lines.specs.Answering.{AreParts, Answered}
+use Rattle.flow_lines.specs.Answering.{Part, AreParts, Answered}
 use Rattle.flow_lines.specs.Driving.{lines_of}
 use Rattle.flow_lines.specs.Faults.{fault_status, fault_of_stop}
 use Rattle.flow_lines.specs.Stopping.{CausedFault, ComeNext, StoppedBy}
@@ -44,8 +44,8 @@ pub uncaused : (f : Fault) (Y : Stop → Type 0) → CausedFault f (λ s. ⊥) �
 uncaused f Y c = fault_by f (λ s. ⊥) Y (λ s x. absurd x) c
 
 -- what comes next among the lines behind comes next among them all
-module _ (u : Rules) (given_up : Book → List Command → Code → Type 0) (cut : List (List ℕ) → List (List ℕ) → Type 0) where
-  behind : (b b1 book : Book) (cs : List Command) (bytes : List ℕ) (left old new : Option (List ℕ)) (n : ℕ) (f : Answered u given_up cut b b1 bytes left old new n) → ComeNext u given_up cut b1 f.rest book cs → ComeNext u given_up cut b bytes book cs
+module _ (u : Rules) (given_up : Book → List Command → Code → Type 0) (counted : Book → List Part → Type 0) (cut : List (List ℕ) → List (List ℕ) → Type 0) where
+  behind : (b b1 book : Book) (cs : List Command) (bytes : List ℕ) (left old new : Option (List ℕ)) (n : ℕ) (f : Answered u given_up counted cut b b1 bytes left old new n) → ComeNext u given_up cut b1 f.rest book cs → ComeNext u given_up cut b bytes book cs
   behind b b1 book cs bytes left old new n f w = record {
     parts = f.parts ++ w.parts;
     next = w.next;
@@ -56,12 +56,12 @@ module _ (u : Rules) (given_up : Book → List Command → Code → Type 0) (cut
     commands_are = w.commands_are;
   }
 
-  next_later : (b b1 book : Book) (cs : List Command) (known left old new : Option (List ℕ)) (n : ℕ) → IfSome known (λ bytes. Answered u given_up cut b b1 bytes left old new n) → IfSome left (λ bytes. ComeNext u given_up cut b1 bytes book cs) → IfSome known (λ bytes. ComeNext u given_up cut b bytes book cs)
+  next_later : (b b1 book : Book) (cs : List Command) (known left old new : Option (List ℕ)) (n : ℕ) → IfSome known (λ bytes. Answered u given_up counted cut b b1 bytes left old new n) → IfSome left (λ bytes. ComeNext u given_up cut b1 bytes book cs) → IfSome known (λ bytes. ComeNext u given_up cut b bytes book cs)
   next_later b b1 book cs None left old new n f w = tt
   next_later b b1 book cs (Some bytes) left old new n f w =
       behind b b1 book cs bytes left old new n f (subst (λ k. IfSome k (λ bytes. ComeNext u given_up cut b1 bytes book cs)) f.left_is w)
 
-  pub stopped_later : (b b1 : Book) (e : Fault) (stops : Book → List Command → Stop → Type 0) (sure : Type 0) (known left old new : Option (List ℕ)) (n : ℕ) → (sure → IfSome known (λ bytes. Answered u given_up cut b b1 bytes left old new n)) → CausedFault e (StoppedBy u given_up stops cut sure b1 left) → CausedFault e (StoppedBy u given_up stops cut sure b known)
+  pub stopped_later : (b b1 : Book) (e : Fault) (stops : Book → List Command → Stop → Type 0) (sure : Type 0) (known left old new : Option (List ℕ)) (n : ℕ) → (sure → IfSome known (λ bytes. Answered u given_up counted cut b b1 bytes left old new n)) → CausedFault e (StoppedBy u given_up stops cut sure b1 left) → CausedFault e (StoppedBy u given_up stops cut sure b known)
   stopped_later b b1 e stops sure known left old new n f cause =
       fault_by e (StoppedBy u given_up stops cut sure b1 left) (StoppedBy u given_up stops cut sure b known)
       (λ s x. (x.0, (x.1.0, (x.1.1.0, λ h. next_later b b1 x.0 x.1.0 known left old new n (f h) (x.1.1.1 h))))) cause

@@ -1,6 +1,6 @@
 -- Lines answered in parts, one after the other, each over the book that those before it left: a line that is no command, or the
 -- lines of a batch, whose commands are applied together or not at all. `given_up` is what stands behind commands that aren't
--- applied, and `cut` which lines may be a batch where these come behind them.
+-- applied, `counted` how many parts may be given up, and `cut` which lines may be a batch where these come behind them.
 use Rattle.std.specs.Prelude.{◌≡◌, ◌≤◌, ◌⊎◌, ◌+◌, ◌^◌, ℕ, suc, length, Bool, true, false, List, [], ◌∷◌, ◌++◌, Option, Some, None, IfSome, is_some, map}
 use Rattle.std.specs.Io.KnownBytes.{Appends, Keeps}
 use Rattle.std.specs.Io.BufRead.{drop_through}
@@ -153,21 +153,23 @@ pub record FirstLine (bytes : List ℕ) (line : List ℕ) (left : Option (List �
   pub lines_are : lines_of bytes ≡ line ∷ lines_of (drop_through 10 bytes)
 
 -- The first lines of the bytes were answered, from a book to a book, and the others are left.
-pub record Answered (u : Rules) (given_up : Book → List Command → Code → Type 0) (cut : List (List ℕ) → List (List ℕ) → Type 0) (b b1 : Book) (bytes : List ℕ) (left : Option (List ℕ)) (old new : Option (List ℕ)) (status : ℕ) : Type 0 where
+pub record Answered (u : Rules) (given_up : Book → List Command → Code → Type 0) (counted : Book → List Part → Type 0) (cut : List (List ℕ) → List (List ℕ) → Type 0) (b b1 : Book) (bytes : List ℕ) (left : Option (List ℕ)) (old new : Option (List ℕ)) (status : ℕ) : Type 0 where
   pub parts : List Part
   pub rest : List ℕ
   pub left_is : left ≡ Some rest
   pub lines_are : lines_of bytes ≡ lines_in parts ++ lines_of rest
   pub parts_are : AreParts u given_up cut b parts (lines_of rest)
+  pub counted_is : counted b parts
   pub book_is : b1 ≡ book_behind u b parts
   pub written_are : Appends old new (written (answers_in u b parts))
   pub status_is : status ≡ final_status (answers_in u b parts)
 
 -- All these lines were answered, from a book to a book, and each answer was written.
-pub record AllAnswered (u : Rules) (given_up : Book → List Command → Code → Type 0) (cut : List (List ℕ) → List (List ℕ) → Type 0) (b b1 : Book) (lines : List (List ℕ)) (old new : Option (List ℕ)) (status : ℕ) : Type 0 where
+pub record AllAnswered (u : Rules) (given_up : Book → List Command → Code → Type 0) (counted : Book → List Part → Type 0) (cut : List (List ℕ) → List (List ℕ) → Type 0) (b b1 : Book) (lines : List (List ℕ)) (old new : Option (List ℕ)) (status : ℕ) : Type 0 where
   pub parts : List Part
   pub lines_are : lines ≡ lines_in parts
   pub parts_are : AreParts u given_up cut b parts []
+  pub counted_is : counted b parts
   pub book_is : b1 ≡ book_behind u b parts
   pub written_are : Appends old new (written (answers_in u b parts))
   pub status_is : status ≡ final_status (answers_in u b parts)
@@ -175,10 +177,11 @@ pub record AllAnswered (u : Rules) (given_up : Book → List Command → Code �
 -- ---- lines of an input whose bytes may be unknown
 
 -- So many lines at least were answered, from a book to a book, and each answer was written.
-pub record SomeAnswered (u : Rules) (given_up : Book → List Command → Code → Type 0) (cut : List (List ℕ) → List (List ℕ) → Type 0) (b b1 : Book) (least : ℕ) (old new : Option (List ℕ)) (status : ℕ) : Type 0 where
+pub record SomeAnswered (u : Rules) (given_up : Book → List Command → Code → Type 0) (counted : Book → List Part → Type 0) (cut : List (List ℕ) → List (List ℕ) → Type 0) (b b1 : Book) (least : ℕ) (old new : Option (List ℕ)) (status : ℕ) : Type 0 where
   pub parts : List Part
   pub many : least ≤ length (lines_in parts)
   pub parts_are : AreParts u given_up cut b parts []
+  pub counted_is : counted b parts
   pub book_is : b1 ≡ book_behind u b parts
   pub written_are : Appends old new (written (answers_in u b parts))
   pub status_is : status ≡ final_status (answers_in u b parts)
@@ -232,45 +235,56 @@ WritesSome f old new answers = ⊥
 abbrev pub StopsBetween : Fault → Type 0
 StopsBetween f = (f ≡ fault.NoMemory _) ⊎ (f ≡ fault.InputFailed)
 
+-- Of the answers to a part, which is this one, not all were written.
+abbrev pub WasCutShort : Rules → (Book → List Command → Code → Type 0) → List Part → Book → Book → List (List ℕ) → (List Line → Type 0) → Type 0
+WasCutShort u given_up here b b1 lines tells = (t : TellsPart u given_up b b1 lines tells) × (here ≡ t.part ∷ [])
+
 -- Where it ends at a part, this is left of it. Where memory ran out, or a write failed, it was answered, and not all of its answers
--- were written. At E84 and E85 its commands have this stop, and none of its answers was written.
-abbrev pub StopsAtPart : Rules → (Book → List Command → Code → Type 0) → (Book → List Command → Stop → Type 0) → Fault → Book → Book → List (List ℕ) → Option (List ℕ) → Option (List ℕ) → Type 0
-StopsAtPart u given_up stops (fault.NoMemory _) b b1 lines old new = TellsPart u given_up b b1 lines (λ answers. WritesFront old new answers)
-StopsAtPart u given_up stops fault.OutputFailed b b1 lines old new = TellsPart u given_up b b1 lines (λ answers. WritesBeginning old new (written answers))
-StopsAtPart u given_up stops fault.Unknown b b1 lines old new = stops b (commands_in lines) stop.Unknown × Keeps old new
-StopsAtPart u given_up stops fault.Halted b b1 lines old new = stops b (commands_in lines) stop.Halted × Keeps old new
-StopsAtPart u given_up stops f b b1 lines old new = ⊥
+-- were written: `here` is this part. At E84 and E85 its commands have this stop, and none of its answers was written.
+abbrev pub StopsAtPart : Rules → (Book → List Command → Code → Type 0) → (Book → List Command → Stop → Type 0) → Fault → List Part → Book → Book → List (List ℕ) → Option (List ℕ) → Option (List ℕ) → Type 0
+StopsAtPart u given_up stops (fault.NoMemory _) here b b1 lines old new = WasCutShort u given_up here b b1 lines (λ answers. WritesFront old new answers)
+StopsAtPart u given_up stops fault.OutputFailed here b b1 lines old new = WasCutShort u given_up here b b1 lines (λ answers. WritesBeginning old new (written answers))
+StopsAtPart u given_up stops fault.Unknown here b b1 lines old new = (here ≡ []) × (stops b (commands_in lines) stop.Unknown × Keeps old new)
+StopsAtPart u given_up stops fault.Halted here b b1 lines old new = (here ≡ []) × (stops b (commands_in lines) stop.Halted × Keeps old new)
+StopsAtPart u given_up stops f here b b1 lines old new = ⊥
+
+-- and some part is this one
+abbrev pub StopsAtSome : Rules → (Book → List Command → Code → Type 0) → (Book → List Command → Stop → Type 0) → Fault → Book → Book → List (List ℕ) → Option (List ℕ) → Option (List ℕ) → Type 0
+StopsAtSome u given_up stops f b b1 lines old new = (here : List Part) × StopsAtPart u given_up stops f here b b1 lines old new
 
 -- a line by itself, or those of a batch
 abbrev pub IsCutOff : (List (List ℕ) → List (List ℕ) → Type 0) → List (List ℕ) → List (List ℕ) → Type 0
 IsCutOff cut next rest = cut next rest ⊎ ((l : List ℕ) × ((next ≡ l ∷ []) × (line_command l ≡ None)))
 
 -- The next lines are the part where it ends.
-pub record StopsInPart (u : Rules) (given_up : Book → List Command → Code → Type 0) (stops : Book → List Command → Stop → Type 0) (cut : List (List ℕ) → List (List ℕ) → Type 0) (e : Fault) (b b1 : Book) (later : List (List ℕ)) (old new : Option (List ℕ)) : Type 0 where
+pub record StopsInPart (u : Rules) (given_up : Book → List Command → Code → Type 0) (stops : Book → List Command → Stop → Type 0) (cut : List (List ℕ) → List (List ℕ) → Type 0) (e : Fault) (here : List Part) (b b1 : Book) (later : List (List ℕ)) (old new : Option (List ℕ)) : Type 0 where
   pub next : List (List ℕ)
   pub rest : List (List ℕ)
   pub lines_are : later ≡ next ++ rest
   pub cut_is : IsCutOff cut next rest
-  pub stops_at : StopsAtPart u given_up stops e b b1 next old new
+  pub stops_at : StopsAtPart u given_up stops e here b b1 next old new
 
 -- it ends between parts, or in the next one
-abbrev pub StopsNext : Rules → (Book → List Command → Code → Type 0) → (Book → List Command → Stop → Type 0) → (List (List ℕ) → List (List ℕ) → Type 0) → Fault → Book → Book → List (List ℕ) → Option (List ℕ) → Option (List ℕ) → Type 0
-StopsNext u given_up stops cut e b b1 later old new = (StopsBetween e × ((b1 ≡ b) × Keeps old new)) ⊎ StopsInPart u given_up stops cut e b b1 later old new
+abbrev pub StopsNext : Rules → (Book → List Command → Code → Type 0) → (Book → List Command → Stop → Type 0) → (List (List ℕ) → List (List ℕ) → Type 0) → Fault → List Part → Book → Book → List (List ℕ) → Option (List ℕ) → Option (List ℕ) → Type 0
+StopsNext u given_up stops cut e here b b1 later old new = (StopsBetween e × ((here ≡ []) × ((b1 ≡ b) × Keeps old new))) ⊎ StopsInPart u given_up stops cut e here b b1 later old new
 
--- The first of the lines were answered, from a book on, and their answers written; it ended behind them.
-pub record StopsWithin (u : Rules) (given_up : Book → List Command → Code → Type 0) (stops : Book → List Command → Stop → Type 0) (cut : List (List ℕ) → List (List ℕ) → Type 0) (b b1 : Book) (e : Fault) (whole : List (List ℕ)) (old new : Option (List ℕ)) : Type 0 where
+-- The first of the lines were answered, from a book on, and their answers written; it ended behind them. What was given up is counted with the
+-- part at which it ended.
+pub record StopsWithin (u : Rules) (given_up : Book → List Command → Code → Type 0) (counted : Book → List Part → Type 0) (stops : Book → List Command → Stop → Type 0) (cut : List (List ℕ) → List (List ℕ) → Type 0) (b b1 : Book) (e : Fault) (whole : List (List ℕ)) (old new : Option (List ℕ)) : Type 0 where
   pub parts : List Part
   pub later : List (List ℕ)
   pub out : Option (List ℕ)
   pub lines_are : whole ≡ lines_in parts ++ later
   pub parts_are : AreParts u given_up cut b parts later
+  pub here : List Part
+  pub counted_is : counted b (parts ++ here)
   pub written_are : Appends old out (written (answers_in u b parts))
-  pub ends : StopsNext u given_up stops cut e (book_behind u b parts) b1 later out new
+  pub ends : StopsNext u given_up stops cut e here (book_behind u b parts) b1 later out new
 
 -- Of some lines the first were answered, from a book on, and their answers written; it ended behind them.
-pub record StopsAmong (u : Rules) (given_up : Book → List Command → Code → Type 0) (stops : Book → List Command → Stop → Type 0) (cut : List (List ℕ) → List (List ℕ) → Type 0) (b b1 : Book) (e : Fault) (old new : Option (List ℕ)) : Type 0 where
+pub record StopsAmong (u : Rules) (given_up : Book → List Command → Code → Type 0) (counted : Book → List Part → Type 0) (stops : Book → List Command → Stop → Type 0) (cut : List (List ℕ) → List (List ℕ) → Type 0) (b b1 : Book) (e : Fault) (old new : Option (List ℕ)) : Type 0 where
   pub whole : List (List ℕ)
-  pub stops_are : StopsWithin u given_up stops cut b b1 e whole old new
+  pub stops_are : StopsWithin u given_up counted stops cut b b1 e whole old new
 
 -- ---- a batch: lines whose commands are applied together
 

@@ -4,6 +4,7 @@ pub mod Replies
 pub mod Driving
 pub mod Ends
 pub mod Answering
+pub mod Counting
 pub mod Stopping
 pub mod Ending
 pub mod Tasks

@@ -37,7 +37,7 @@ use Rattle.flow_machine.specs.Deciding.{Decides}
 use Rattle.flow_machine.specs.Fitting.{HasUnfit}
 use Rattle.flow_machine.specs.Listed.{with_signal, signals_in, told_with, told_if, told_at, told_in, StuckAt, StuckIn}
 use Rattle.flow_machine.specs.Reached.{Meaning}
-use Rattle.flow_machine.specs.Seated.{FitSeats, IsPlace, KeepsNoMore}
+use Rattle.flow_machine.specs.Seated.{FitSeats, IsPlace, KeepsAlike}
 use Rattle.flow_machine.specs.Stuck.{HasMismatch, needs, StuckTold, StuckRuns, StuckOpen, IsStuck}
 use Rattle.flow_machine.specs.declared.seats.Led.{Led}
 use Rattle.flow_machine.specs.declared.seats.Seats.{Seats}
@@ -105,9 +105,9 @@ pub place_here : (m : Meaning) (b : Book) (seats : Seats) (run : ℕ) (r : Run) 
 place_here m b seats run r s p there reads fit is =
     subst (λ h. Stands p h (config_of p s)) (its_history b run r (sym there)) (place_stands m b seats run (head_of r) s p (ap head_if there) reads fit is)
 
--- seats that keep no more, and have the same ahead, are fit for the same book
-pub fit_less : (m : Meaning) (b : Book) (old new : Seats) → FitSeats m b old → KeepsNoMore old new → new.ahead.items ≡ old.ahead.items → FitSeats m b new
-fit_less m b old new fit no_more ahead = fit_on m b [] old new new None fit no_more ahead (λ (l : Led) there. inl there) refl tt
+-- seats that keep the same, and have the same ahead, are fit for the same book
+pub fit_less : (m : Meaning) (b : Book) (old new : Seats) → FitSeats m b old → KeepsAlike old new → new.ahead.items ≡ old.ahead.items → FitSeats m b new
+fit_less m b old new fit alike ahead = fit_on m b [] old new new None fit alike ahead (λ (l : Led) there. inl there) refl tt
 
 ---- Runs by their numbers
 

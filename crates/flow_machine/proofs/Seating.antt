@@ -23,14 +23,14 @@ use Rattle.flow_run.specs.Position.{config_of}
 use Rattle.flow_run.specs.declared.stance.Stance.{Stance}
 use Rattle.flow_cache.specs.declared.positions.Entry.{Entry}
 use Rattle.flow_cache.specs.Entries.{Entries, Kept, HasEvents, used, without_entry}
-use Rattle.flow_cache.proofs.Entries.{found_has_it, used_have_it, kept_have_it, without_within}
+use Rattle.flow_cache.proofs.Entries.{found_has_it, used_have_it, used_keeps, kept_have_it, without_within}
 use Rattle.flow_view.specs.Heads.{head_of, head_if, head_at}
 use Rattle.flow_view.specs.declared.head.Head.{Head}
 use Rattle.flow_machine.proofs.GoingOn.{first_turn_reaches, reached_stands, reached_stays, turn_reaches}
 use Rattle.flow_machine.proofs.Standing.{stands_moment}
 use Rattle.flow_machine.specs.ByHead.{history_if, history_at}
 use Rattle.flow_machine.specs.Reached.{Meaning, HasReached}
-use Rattle.flow_machine.specs.Seated.{ReachedIn, FitSeats, HasNone, IsWithin, KeepsNoMore, IsSame, IsCopy, IsCopyAhead, IsPlace, Grows, KeepsOne, KeepsAll, WasThere, Settles, without_entries, LeadsTo, IsFirstLed}
+use Rattle.flow_machine.specs.Seated.{AreAlike, ReachedIn, FitSeats, HasNone, IsWithin, KeepsAlike, IsSame, IsCopy, IsCopyAhead, IsPlace, Grows, KeepsOne, KeepsAll, WasThere, Settles, without_entries, LeadsTo, IsFirstLed}
 use Rattle.flow_machine.specs.declared.seats.Led.{Led}
 use Rattle.flow_machine.specs.declared.seats.Seats.{Seats}
 
@@ -120,8 +120,12 @@ gave_later {A = A} before after x y is c = subst (λ (xs : List A). Contains xs 
 within_used : (run : ℕ) (es : Entries) → IsWithin es (used run es)
 within_used run es e there = used_have_it (λ n x. Contains es (n, x)) run es (λ n x c. c) e.0 e.1 there
 
-pub within_as : (run : ℕ) (old new : Kept) → new ≡ record { entries = used run old.entries; capacity = old.capacity } → IsWithin old.entries new.entries
-within_as run old new is = subst (λ (k : Kept). IsWithin old.entries k.entries) (sym is) (within_used run old.entries)
+pub alike_as : (run : ℕ) (old new : Kept) → new ≡ record { entries = used run old.entries; capacity = old.capacity } → AreAlike old.entries new.entries
+alike_as run old new is = subst (λ (k : Kept). AreAlike old.entries k.entries) (sym is) (within_used run old.entries, used_keeps run old.entries)
+
+-- and so by several calls
+pub alike_on : {a b c : Entries} → AreAlike a b → AreAlike b c → AreAlike a c
+alike_on one two = (λ e there. one.0 e (two.0 e there), λ e there. two.1 e (one.1 e there))
 
 -- of a list whose entries were there before, or stand in a list, one more from that list is kept
 pub one_kept : (base : Entries) (ls : List Led) (old new : Kept) (l : Led) → ((e : ℕ × Entry) → Contains old.entries e → WasThere base ls e) → Contains ls l → KeepsOne old l new → (e : ℕ × Entry) → Contains new.entries e → WasThere base ls e
@@ -131,13 +135,13 @@ one_kept base ls old new l before there (inr is) e in_new = before e (subst (λ 
 
 ---- Seats that change
 
--- seats that keep no more, and have nothing ahead but what was, and what the changes lead to
-pub fit_on : (m : Meaning) (b : Book) (cs : List Change) (old between new : Seats) (o : Option Led) → FitSeats m b old → KeepsNoMore old between → between.ahead.items ≡ old.ahead.items → Grows between o new → new.kept ≡ between.kept → IfSome o (LeadsTo m b cs)
+-- seats that keep the same, and have nothing ahead but what was, and what the changes lead to
+pub fit_on : (m : Meaning) (b : Book) (cs : List Change) (old between new : Seats) (o : Option Led) → FitSeats m b old → KeepsAlike old between → between.ahead.items ≡ old.ahead.items → Grows between o new → new.kept ≡ between.kept → IfSome o (LeadsTo m b cs)
     → FitSeats m (changed_by b cs) new
-fit_on m b cs old between new o fit no_more ahead grows kept leads =
+fit_on m b cs old between new o fit alike ahead grows kept leads =
     record {
       kept = λ run e there.
-          let before = no_more (run, e) (subst (λ (k : Kept). Contains k.entries (run, e)) kept there) in
+          let before = alike.0 (run, e) (subst (λ (k : Kept). Contains k.entries (run, e)) kept there) in
           reached_stays m b run e.text e.stance cs (fit.kept run e before);
       ahead = λ l there. led_on l (grows l there);
     }

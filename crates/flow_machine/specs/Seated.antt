@@ -42,9 +42,13 @@ pub record HasNone (s : Seats) : Type 0 where
 abbrev pub IsWithin : Entries → Entries → Type 0
 IsWithin old new = (e : ℕ × Entry) → Contains new e → Contains old e
 
--- Nothing is kept that wasn't.
-abbrev pub KeepsNoMore : Seats → Seats → Type 0
-KeepsNoMore old new = IsWithin old.kept.entries new.kept.entries
+-- The entries are the same, in whichever order.
+abbrev pub AreAlike : Entries → Entries → Type 0
+AreAlike old new = IsWithin old new × IsWithin new old
+
+-- What was kept is kept on, and nothing else; which was used last isn't said.
+abbrev pub KeepsAlike : Seats → Seats → Type 0
+KeepsAlike old new = AreAlike old.kept.entries new.kept.entries
 
 -- The position is of this run and text, with so many events.
 pub record IsLedAt (l : Led) (run text events : ℕ) : Type 0 where

@@ -2,7 +2,7 @@
 ghost use Rattle.std.specs.Prelude.{◌≡◌, ◌≤◌, ◌⊎◌, ◌∷◌, ◌++◌, [], IfOk, IfErr, IfSome, true};
 ghost use Rattle.flow_base.specs.Syntax.{Program as Tree};
 ghost use Rattle.flow_machine.specs.Reached.{Meaning};
-ghost use Rattle.flow_machine.specs.Seated.{FitSeats, Grows, HasNone, IsCopy, IsCopyAhead, IsLedAt, IsPlace, IsWithin, KeepsAll, KeepsNoMore, KeepsOne, Settles, without_entries};
+ghost use Rattle.flow_machine.specs.Seated.{AreAlike, FitSeats, Grows, HasNone, IsCopy, IsCopyAhead, IsLedAt, IsPlace, KeepsAlike, KeepsAll, KeepsOne, Settles, without_entries};
 ghost use Rattle.flow_model.specs.Book.{Book};
 ghost use Rattle.flow_run.specs.Position.{config_of};
 
@@ -77,7 +77,7 @@ impl Seats {
     ) -> Result<Option<Stance>, ViewFault>
         ensures found { IfOk result (λ o. IfSome o (λ s. IsPlace self.old run text events s)) }
         ensures memory { IfErr result (λ e. e ≡ ViewFault.NoMemory _) }
-        ensures no_more { KeepsNoMore self.old self.new }
+        ensures alike { KeepsAlike self.old self.new }
         ensures ahead { self.new.ahead.items ≡ self.old.ahead.items }
         ensures over { self.new.over.items ≡ self.old.over.items }
     {
@@ -190,7 +190,7 @@ fn kept_at(
 ) -> Result<Option<Stance>, ViewFault>
     ensures found { IfOk result (λ o. IfSome o (λ s. IsCopy kept.old.entries run text events s)) }
     ensures memory { IfErr result (λ e. e ≡ ViewFault.NoMemory _) }
-    ensures no_more { IsWithin kept.old.entries kept.new.entries }
+    ensures alike { AreAlike kept.old.entries kept.new.entries }
 {
     match kept.find(run, text, events) {
         Some(stance) => Ok(Some(copied(alloc, stance)?)),

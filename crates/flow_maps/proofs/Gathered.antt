@@ -7,7 +7,7 @@ use Rattle.flow_model.specs.Book.{is_run_of, signal_in, found_in, signalled_from
 use Rattle.flow_model.specs.Open.{timers_left}
 use Rattle.flow_maps.specs.Agenda.{is_open_run}
 use Rattle.flow_maps.specs.Gathering.{listed_with, outlook_from}
-use Rattle.flow_maps.specs.Outlooks.{Waiting, is_by, moment_of, sooner, soonest, waiting_in, waiting_from, with_next, with_ready}
+use Rattle.flow_maps.specs.Outlooks.{Waiting, is_within, moment_of, sooner, soonest, waiting_in, waiting_from, with_next, with_ready}
 use Rattle.flow_maps.specs.declared.gathering.WaitingList.{WaitingList}
 use Rattle.flow_maps.specs.Signals.{or_later}
 use Rattle.flow_maps.specs.declared.outlook.BookWaits.{BookWaits}
@@ -58,29 +58,30 @@ soonest_on at best (x ∷ xs) ys = soonest_on at (with_ready at best x) xs ys
 abbrev told : List Waiting → Option ℕ → ℕ → BookWaits
 told ws d k = record { ready = ws; due = d; open_runs = k }
 
-pub listing_begins : (at : ℕ) (ready : List Waiting) (opened : List ℕ) → ready ≡ [] → opened ≡ [] → (n : ℕ) (rs : List Run)
-    → told (ready ++ filter (is_by at) (waiting_from n rs)) (soonest at (option_map moment_of (least_from 1000000000000000 n None rs)) (waiting_from n rs)) (length opened + length (filter is_open_run rs)) ≡ outlook_from at n rs
-listing_begins at ready opened none nobody n rs =
-    let rest : List Waiting = filter (is_by at) (waiting_from n rs) in
+pub listing_begins : (since at : ℕ) (ready : List Waiting) (opened : List ℕ) → ready ≡ [] → opened ≡ [] → (n : ℕ) (rs : List Run)
+    → told (ready ++ filter (is_within since at) (waiting_from n rs)) (soonest at (option_map moment_of (least_from 1000000000000000 n None rs)) (waiting_from n rs)) (length opened + length (filter is_open_run rs)) ≡ outlook_from since at n rs
+listing_begins since at ready opened none nobody n rs =
+    let rest : List Waiting = filter (is_within since at) (waiting_from n rs) in
     let due : Option ℕ = soonest at (option_map moment_of (least_from 1000000000000000 n None rs)) (waiting_from n rs) in
     let count : ℕ = length (filter is_open_run rs) in
     ap (λ ws. told (ws ++ rest) due (length opened + count)) none ∙ ap (λ ns. told rest due (length ns + count)) nobody ∙ ap (λ k. told rest due k) (let same : 0 + count ≡ count = omega arith in same)
 
-pub listing_goes_on : (l l' : WaitingList) (n : ℕ) (r : Run) → l'.at ≡ l.at → l'.ready.items ≡ l.ready.items ++ filter (is_by l.at) (waiting_in n r.tasks) → l'.next ≡ soonest l.at l.next (waiting_in n r.tasks)
+pub listing_goes_on : (l l' : WaitingList) (n : ℕ) (r : Run) → l'.since ≡ l.since → l'.at ≡ l.at → l'.ready.items ≡ l.ready.items ++ filter (is_within l.since l.at) (waiting_in n r.tasks) → l'.next ≡ soonest l.at l.next (waiting_in n r.tasks)
     → l'.first ≡ least_of 1000000000000000 n l.first (timers_left r.history)
     → ((rs : List Run) → length l'.opened.items + length (filter is_open_run rs) ≡ length l.opened.items + length (filter is_open_run (r ∷ rs))) → (rs : List Run) → listed_with l' (n + 1) rs ≡ listed_with l n (r ∷ rs)
-listing_goes_on l l' n r same ready next first opened rs =
+listing_goes_on l l' n r from same ready next first opened rs =
     let own : List Waiting = waiting_in n r.tasks in
     let rest : List Waiting = waiting_from (n + 1) rs in
     let timer : Option ℕ = option_map moment_of (least_from 1000000000000000 n l.first (r ∷ rs)) in
     let left : ℕ = length l'.opened.items + length (filter is_open_run rs) in
-    ap (λ a. told (l'.ready.items ++ filter (is_by a) rest) (soonest a (with_next (option_map moment_of (least_from 1000000000000000 (n + 1) l'.first rs)) l'.next) rest) left) same
+    ap (λ a. told (l'.ready.items ++ filter (is_within a l'.at) rest) (soonest l'.at (with_next (option_map moment_of (least_from 1000000000000000 (n + 1) l'.first rs)) l'.next) rest) left) from
+    ∙ ap (λ a. told (l'.ready.items ++ filter (is_within l.since a) rest) (soonest a (with_next (option_map moment_of (least_from 1000000000000000 (n + 1) l'.first rs)) l'.next) rest) left) same
     ∙ ap (λ ws. told ws (soonest l.at (with_next (option_map moment_of (least_from 1000000000000000 (n + 1) l'.first rs)) l'.next) rest) left)
-    (ap (λ ws. ws ++ filter (is_by l.at) rest) ready ∙ append_assoc l.ready.items (filter (is_by l.at) own) (filter (is_by l.at) rest) ∙ ap (λ ws. l.ready.items ++ ws) (sym (filter_on (is_by l.at) own rest)))
-    ∙ ap (λ d. told (l.ready.items ++ filter (is_by l.at) (own ++ rest)) d left)
+    (ap (λ ws. ws ++ filter (is_within l.since l.at) rest) ready ∙ append_assoc l.ready.items (filter (is_within l.since l.at) own) (filter (is_within l.since l.at) rest) ∙ ap (λ ws. l.ready.items ++ ws) (sym (filter_on (is_within l.since l.at) own rest)))
+    ∙ ap (λ d. told (l.ready.items ++ filter (is_within l.since l.at) (own ++ rest)) d left)
     (ap (λ d. soonest l.at (with_next (option_map moment_of (least_from 1000000000000000 (n + 1) d rs)) l'.next) rest) first ∙ ap (λ o. soonest l.at (with_next timer o) rest) next
     ∙ ap (λ b. soonest l.at b rest) (soonest_both l.at timer l.next own) ∙ sym (soonest_on l.at (with_next timer l.next) own rest))
-    ∙ ap (λ k. told (l.ready.items ++ filter (is_by l.at) (own ++ rest)) (soonest l.at (with_next timer l.next) (own ++ rest)) k) (opened rs)
+    ∙ ap (λ k. told (l.ready.items ++ filter (is_within l.since l.at) (own ++ rest)) (soonest l.at (with_next timer l.next) (own ++ rest)) k) (opened rs)
 
 -- And with none more that is all.
 pub listing_ends : (l : WaitingList) (o : BookWaits) (n : ℕ) → o.ready ≡ l.ready.items → o.due ≡ with_next (option_map moment_of l.first) l.next → o.open_runs ≡ length l.opened.items → o ≡ listed_with l n []

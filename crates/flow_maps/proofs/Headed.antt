@@ -17,7 +17,7 @@ use Rattle.flow_maps.specs.declared.heads.Heads.{Heads}
 use Rattle.flow_maps.specs.Agenda.{tasks_behind}
 use Rattle.flow_maps.specs.KnownHeads.{IsHead, KnowsHeads, head_behind}
 use Rattle.flow_maps.specs.OfRuns.{is_run}
-use Rattle.flow_maps.proofs.Planning.{own_set, other_set, apart_by}
+use Rattle.flow_maps.proofs.Planning.{own_set, other_set, other_more, apart_by}
 use Rattle.flow_maps.proofs.Serving.{run_is as book_is, none_is_there, turn_open}
 use Rattle.flow_maps.proofs.Slots.{run_is}
 
@@ -29,7 +29,7 @@ some_is x y h = let same = h in cc
 
 ---- The runs
 
-nth_own : (rs : List Run) (run : ℕ) (x y : Run) → nth rs run ≡ Some x → nth (slice_set rs (run - 1) y) run ≡ Some y
+pub nth_own : (rs : List Run) (run : ℕ) (x y : Run) → nth rs run ≡ Some x → nth (slice_set rs (run - 1) y) run ≡ Some y
 nth_own rs zero x y there = absurd (none_is x there)
 nth_own rs (suc k) x y there =
     nth_at (slice_set rs (suc k - 1) y) (suc k) k refl
@@ -50,6 +50,14 @@ other_run b run n f other = go (nth b.runs run) refl
     go : (o : Option Run) → nth b.runs run ≡ o → nth (with_run b run f).runs n ≡ nth b.runs n
     go None is = ap (λ (x : Book). nth x.runs n) (sym (none_is_there b run f is))
     go (Some r) is = ap (λ (x : Book). nth x.runs n) (sym (book_is b run f r is)) ∙ nth_other b.runs run n r (f r) is other
+
+-- a run beside the last
+pub nth_less : (rs : List Run) (r : Run) (run n : ℕ) → run ≡ length rs + 1 → is_run run n ≡ false → nth (rs ++ r ∷ []) n ≡ nth rs n
+nth_less rs r run zero at other = refl
+nth_less rs r run (suc j) at other =
+    let last : run ≡ suc (length rs) = omega (arith, at) in
+    let apart = apart_by (length rs) j (subst (λ m. is_run m (suc j) ≡ false) last other) in
+    nth_at (rs ++ r ∷ []) (suc j) j refl ∙ other_more rs r j apart ∙ sym (nth_at rs (suc j) j refl)
 
 get_more : {A : Type 0} (rs : List A) (r : A) (k : ℕ) (x : A) → slice_get rs k ≡ Some x → slice_get (rs ++ r ∷ []) k ≡ Some x
 get_more [] r k x at = absurd (none_is x at)
@@ -96,6 +104,14 @@ one_more m b r knows n = by (get nat_cmp m.known n) (nth b.runs n) refl (knows n
     by (Some k) None is h = absurd (none_is k (ap head_if (sym is) ∙ h))
     by (Some k) (Some y) is h = ap head_if (nth_more b.runs r n y is ∙ sym is) ∙ h
 
+-- one run less too
+pub one_less : (m m' : Heads) (b : Book) (r : Run) (run : ℕ) → run ≡ length b.runs + 1 → ((n : ℕ) → get nat_cmp m'.known n ≡ cond (is_run run n) None (get nat_cmp m.known n)) → KnowsHeads m (record b { runs = b.runs ++ r ∷ [] }) → KnowsHeads m' b
+one_less m m' b r run at out knows n = subst (λ o. IsHead o (head_at b.runs n)) (sym (out n)) (by (is_run run n) refl)
+  where
+    by : (v : Bool) → is_run run n ≡ v → IsHead (cond v None (get nat_cmp m.known n)) (head_at b.runs n)
+    by true own = tt
+    by false other = subst (λ o. IsHead (get nat_cmp m.known n) (head_if o)) (nth_less b.runs r run n at other) (knows n)
+
 -- and its own
 pub last_head : (b : Book) (r : Run) (run : ℕ) → run ≡ length b.runs + 1 → head_at (b.runs ++ r ∷ []) run ≡ Some (head_of r)
 last_head b r run at = ap head_if (nth_next b.runs r [] run (omega (arith, at)))
@@ -122,7 +138,7 @@ traces_moment : (n at : ℕ) (cs : List Cmd) → moment_after at (traces n at cs
 traces_moment n at [] = refl
 traces_moment n at (c ∷ cs) = traces_moment (n + 1) at cs
 
-turn_count : (t : Turn) (r : Run) → length (with_turn t r).history ≡ length r.history + 1 + length t.commands
+pub turn_count : (t : Turn) (r : Run) → length (with_turn t r).history ≡ length r.history + 1 + length t.commands
 turn_count t r =
     let n = length r.history + 1 in
     let whole = length-append r.history (turn_events n t.at t.input t.commands) in

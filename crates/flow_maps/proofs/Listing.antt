@@ -1,14 +1,14 @@
 -- What may be attempted by a moment, listed by the runs that have something by then.
 use Rattle.std.proofs.Common.{◌≡◌, ◌≤◌, ◌<◌, ◌+◌, ◌-◌, ◌||◌, ℕ, zero, suc, Bool, true, false, cond, List, [], ◌∷◌, ◌++◌, filter, slice_get, refl, sym, ap, ◌∙◌, inl, inr, true≢false, arith}
-use Rattle.std.specs.Prelude.{nat_le}
+use Rattle.std.specs.Prelude.{◌⊎◌, ◌&&◌, nat_le}
 use Rattle.std.specs.List.{AllByRecursion, list_any}
 use Rattle.std.specs.List.Sorted.{IsStrictlySortedBy}
-use Rattle.std.specs.Ordering.{nat_cmp}
+use Rattle.std.specs.Ordering.{nat_cmp, is_gt, is_le, ordering_then}
 use Rattle.std.specs.BTreeSet.{contains}
 use Rattle.std.specs.BTreeMap.Range.{range_contains}
 use Rattle.std.specs.Cmp.{nat_cmp_is}
-use Rattle.std.specs.declared.ops.Bound.TheVariants.{Excluded, Unbounded}
-use Rattle.std.proofs.Common.{Less, Greater}
+use Rattle.std.specs.declared.ops.Bound.TheVariants.{Excluded, Included}
+use Rattle.std.proofs.Common.{Less, Equal, Greater}
 use Rattle.std.proofs.lemmas.Bool.{cases_Bool, leb-true, leb-false}
 use Rattle.std.proofs.lemmas.Cmp.{ranked}
 use Rattle.flow_base.specs.declared.book.Run.{Run}
@@ -18,9 +18,9 @@ use Rattle.flow_model.proofs.DueFirst.{Has}
 use Rattle.flow_model.proofs.Logs.{nth_at}
 use Rattle.flow_maps.specs.declared.calendar.Calendar.{Calendar}
 use Rattle.flow_maps.specs.Agenda.{tasks_of, tasks_at}
-use Rattle.flow_maps.specs.Calendars.{Slot, slot_cmp, is_slot, slot, date_of_task, IsCalendar, part_by}
+use Rattle.flow_maps.specs.Calendars.{Slot, slot_cmp, is_slot, slot, date_of_task, IsCalendar, part_within}
 use Rattle.flow_maps.specs.OfRuns.{is_run}
-use Rattle.flow_maps.specs.Outlooks.{Waiting, is_by, ready_by, ready_of, waiting_in, waiting_from}
+use Rattle.flow_maps.specs.Outlooks.{Waiting, is_by, is_within, ready_of, ready_within, waiting, waiting_in, waiting_from}
 use Rattle.flow_maps.specs.Timers.{of_run}
 use Rattle.flow_maps.proofs.Slots.{run_is, run_itself, not_true, slot_is, one_has, later}
 
@@ -58,23 +58,23 @@ shift [] ys w = refl
 shift (x ∷ xs) ys w = ap (λ zs. x ∷ zs) (shift xs ys w)
 
 -- one more of a run's activities, which is listed if it is ready
-pub one_more : (at n : ℕ) (xs ys : List Waiting) (t : OpenActivity) (ts ss : List OpenActivity) (all : List Waiting) → ts ≡ t ∷ ss → ys ≡ cond (is_by at (n, t)) (xs ++ (n, t) ∷ []) xs
-    → xs ++ filter (is_by at) (waiting_in n ts) ≡ all → ys ++ filter (is_by at) (waiting_in n ss) ≡ all
-one_more at n xs ys t ts ss all first more was = ap (λ zs. zs ++ rest) more ∙ by (is_by at (n, t)) ∙ sym (ap (λ us. xs ++ filter (is_by at) (waiting_in n us)) first) ∙ was
+pub one_more : (p : Waiting → Bool) (n : ℕ) (xs ys : List Waiting) (t : OpenActivity) (ts ss : List OpenActivity) (all : List Waiting) → ts ≡ t ∷ ss → ys ≡ cond (p (n, t)) (xs ++ (n, t) ∷ []) xs
+    → xs ++ filter p (waiting_in n ts) ≡ all → ys ++ filter p (waiting_in n ss) ≡ all
+one_more p n xs ys t ts ss all first more was = ap (λ zs. zs ++ rest) more ∙ by (p (n, t)) ∙ sym (ap (λ us. xs ++ filter p (waiting_in n us)) first) ∙ was
   where
     rest : List Waiting
-    rest = filter (is_by at) (waiting_in n ss)
+    rest = filter p (waiting_in n ss)
 
     by : (v : Bool) → cond v (xs ++ (n, t) ∷ []) xs ++ rest ≡ xs ++ cond v ((n, t) ∷ rest) rest
     by true = shift xs rest (n, t)
     by false = refl
 
-module _ (at : ℕ) (g : ℕ → List OpenActivity) where
-  -- what a run of a number has by the moment
+module _ (p : Waiting → Bool) (g : ℕ → List OpenActivity) where
+  -- what a run of a number has that is listed
   abbrev own : ℕ → List OpenActivity → List Waiting
-  own n ts = filter (is_by at) (waiting_in n ts)
+  own n ts = filter p (waiting_in n ts)
 
-  -- runs from a number on that aren't listed have nothing by then
+  -- runs from a number on that aren't listed have nothing of it
   abbrev AreRest : ℕ → List ℕ → Type 0
   AreRest n ms = (k : ℕ) → n ≤ k → among ms k ≡ false → own k (g k) ≡ []
 
@@ -84,48 +84,48 @@ module _ (at : ℕ) (g : ℕ → List OpenActivity) where
   rest_from : (n m : ℕ) (ms : List ℕ) → n ≤ m → AreRest n ms → AreRest m ms
   rest_from n m ms less rest k from none = rest k (omega (arith, less, from)) none
 
-  none_ready : (n : ℕ) (ms : List ℕ) → Rises n ms → ((k : ℕ) → n ≤ k → g k ≡ []) → ready_of at g ms ≡ []
+  none_ready : (n : ℕ) (ms : List ℕ) → Rises n ms → ((k : ℕ) → n ≤ k → g k ≡ []) → ready_of p g ms ≡ []
   none_ready n [] rises none = refl
   none_ready n (m ∷ ms) rises none =
-      ap (λ ts. own m ts ++ ready_of at g ms) (none m rises.0) ∙ none_ready (suc m) ms rises.1 (λ k from. none k (omega (arith, from, rises)))
+      ap (λ ts. own m ts ++ ready_of p g ms) (none m rises.0) ∙ none_ready (suc m) ms rises.1 (λ k from. none k (omega (arith, from, rises)))
 
-  all_ready : (rs : List Run) (n : ℕ) (ms : List ℕ) → Rises n ms → ((k : ℕ) → g (n + k) ≡ of_run tasks_of (slice_get rs k)) → AreRest n ms → ready_of at g ms ≡ filter (is_by at) (waiting_from n rs)
+  all_ready : (rs : List Run) (n : ℕ) (ms : List ℕ) → Rises n ms → ((k : ℕ) → g (n + k) ≡ of_run tasks_of (slice_get rs k)) → AreRest n ms → ready_of p g ms ≡ filter p (waiting_from n rs)
   all_ready [] n ms rises are rest = none_ready n ms rises (λ k from. ap g (let e : k ≡ n + (k - n) = omega (arith, from) in e) ∙ are (k - n))
   all_ready (r ∷ rs) n [] rises are rest =
       let here : own n r.tasks ≡ [] = ap (own n) (sym (are zero) ∙ ap g (omega arith)) ∙ rest n (omega arith) refl in
-      all_ready rs (n + 1) [] tt (λ k. ap g (omega arith) ∙ are (suc k)) (rest_from n (n + 1) [] (omega arith) rest) ∙ ap (λ ws. ws ++ filter (is_by at) (waiting_from (n + 1) rs)) (sym here)
-      ∙ sym (filter_on (is_by at) (waiting_in n r.tasks) (waiting_from (n + 1) rs))
+      all_ready rs (n + 1) [] tt (λ k. ap g (omega arith) ∙ are (suc k)) (rest_from n (n + 1) [] (omega arith) rest) ∙ ap (λ ws. ws ++ filter p (waiting_from (n + 1) rs)) (sym here)
+      ∙ sym (filter_on p (waiting_in n r.tasks) (waiting_from (n + 1) rs))
   all_ready (r ∷ rs) n (m ∷ ms) rises are rest = elim (cases_Bool (nat_le m n)) [
     | inl low ↦
         let below = leb-true m n low in
         let same : m ≡ n = omega (arith, below, rises) in
         let tasks : g m ≡ r.tasks = ap g (omega (arith, same)) ∙ are zero in
         let next : n + 1 ≤ suc m = omega (arith, same) in
-        ap (λ ts. own m ts ++ ready_of at g ms) tasks ∙ ap (λ k. own k r.tasks ++ ready_of at g ms) same
+        ap (λ ts. own m ts ++ ready_of p g ms) tasks ∙ ap (λ k. own k r.tasks ++ ready_of p g ms) same
         ∙ ap (λ ws. own n r.tasks ++ ws) (all_ready rs (n + 1) ms (rises_from (n + 1) (suc m) ms next rises.1) (λ k. ap g (omega arith) ∙ are (suc k)) (rest_on (n + 1) m ms (omega (arith, same)) (rest_from n m (m ∷ ms) rises.0 rest)))
-        ∙ sym (filter_on (is_by at) (waiting_in n r.tasks) (waiting_from (n + 1) rs))
+        ∙ sym (filter_on p (waiting_in n r.tasks) (waiting_from (n + 1) rs))
     | inr high ↦
         let less = leb-false m n high in
         let here : own n r.tasks ≡ [] = ap (own n) (sym (are zero) ∙ ap g (omega arith)) ∙ rest n (omega arith) (none_below n m (m ∷ ms) (omega arith, rises.1) less) in
         all_ready rs (n + 1) (m ∷ ms) (omega (arith, less), rises.1) (λ k. ap g (omega arith) ∙ are (suc k)) (rest_from n (n + 1) (m ∷ ms) (omega arith) rest)
-        ∙ ap (λ ws. ws ++ filter (is_by at) (waiting_from (n + 1) rs)) (sym here)
-        ∙ sym (filter_on (is_by at) (waiting_in n r.tasks) (waiting_from (n + 1) rs))
+        ∙ ap (λ ws. ws ++ filter p (waiting_from (n + 1) rs)) (sym here)
+        ∙ sym (filter_on p (waiting_in n r.tasks) (waiting_from (n + 1) rs))
   ]
 
-  -- Listed by runs in order, of which each has what the book has, it is all that the book has by the moment, where the others have nothing.
-  all_listed : (b : Book) (ms : List ℕ) → Rises 0 ms → ((n : ℕ) → g n ≡ tasks_at b n) → AreRest 0 ms → ready_of at g ms ≡ ready_by at b
+  -- Listed by runs in order, of which each has what the book has, it is all that the book has of it, where the others have nothing.
+  all_listed : (b : Book) (ms : List ℕ) → Rises 0 ms → ((n : ℕ) → g n ≡ tasks_at b n) → AreRest 0 ms → ready_of p g ms ≡ filter p (waiting b)
   all_listed b ms rises are rest = go ms rises rest
     where
-      from_one : (ms : List ℕ) → Rises 1 ms → AreRest 1 ms → ready_of at g ms ≡ ready_by at b
+      from_one : (ms : List ℕ) → Rises 1 ms → AreRest 1 ms → ready_of p g ms ≡ filter p (waiting b)
       from_one ms rises rest = all_ready b.runs 1 ms rises (λ k. are (1 + k) ∙ ap (of_run tasks_of) (nth_at b.runs (1 + k) k (omega arith))) rest
 
-      go : (ms : List ℕ) → Rises 0 ms → AreRest 0 ms → ready_of at g ms ≡ ready_by at b
+      go : (ms : List ℕ) → Rises 0 ms → AreRest 0 ms → ready_of p g ms ≡ filter p (waiting b)
       go [] rises rest = from_one [] tt (rest_from 0 1 [] (omega arith) rest)
       go (m ∷ ms) rises rest = elim (cases_Bool (nat_le 1 m)) [
         | inl high ↦ from_one (m ∷ ms) (leb-true 1 m high, rises.1) (rest_from 0 1 (m ∷ ms) (omega arith) rest)
         | inr low ↦
             let zeroth : m ≡ 0 = let less = leb-false 1 m low in omega (arith, less) in
-            ap (λ ts. own m ts ++ ready_of at g ms) (ap g zeroth ∙ are zero)
+            ap (λ ts. own m ts ++ ready_of p g ms) (ap g zeroth ∙ are zero)
             ∙ from_one ms (rises_from 1 (suc m) ms (omega (arith, zeroth)) rises.1) (rest_on 1 m ms (omega (arith, zeroth)) (rest_from 0 m (m ∷ ms) (omega arith) rest))
       ]
 
@@ -144,7 +144,7 @@ unfolding IsStrictlySortedBy
 sorted_rise n [] all sorted = tt
 sorted_rise n (k ∷ ks) all sorted = (all.0, sorted_rise (suc k) ks (above_all k ks sorted.0) sorted.1)
 
----- By the slots up to the moment
+---- By the slots between two moments
 
 -- a slot of a part has its run among those of the part
 in_part : (ks : List Slot) (p : Slot → Bool) (q : Slot) → list_any (is_slot q) ks ≡ true → p q ≡ true → list_any (λ (s : Slot). is_run s.1 q.1) (filter p ks) ≡ true
@@ -164,34 +164,69 @@ in_part (k ∷ ks) p q h is = by (is_slot q k) refl (in_part ks p q) h
         ap (λ v. found (cond v (k ∷ filter p ks) (filter p ks))) (ap p (sym e) ∙ is) ∙ ap (λ v. v || found (filter p ks)) (ap (λ (s : Slot). is_run s.1 q.1) (sym e) ∙ run_itself q.1)
     by false same rest h = more (p k) (rest h is)
 
-in_time : (at : ℕ) (q : Slot) → q.0 ≤ at → range_contains slot_cmp Unbounded (Excluded (at + 1, 0, 0)) q ≡ true
-in_time at q less = rw (sym (nat_cmp_is (at + 1) q.0 Greater (omega (arith, less)))) refl
-
-none_own : (at n : ℕ) (ts : List OpenActivity) → ((t : OpenActivity) → Has ts t → nat_le t.ready at ≡ false) → filter (is_by at) (waiting_in n ts) ≡ []
-none_own at n [] never = refl
-none_own at n (t ∷ ts) never =
-    ap (λ v. cond v ((n, t) ∷ filter (is_by at) (waiting_in n ts)) (filter (is_by at) (waiting_in n ts))) (never t (inl refl)) ∙ none_own at n ts (λ x has. never x (inr has))
-
--- A run that no slot up to the moment is of has nothing by then.
-none_by_slots : (c : Calendar OpenActivity) (g : ℕ → List OpenActivity) (at n : ℕ) → IsCalendar date_of_task c g → list_any (λ (s : Slot). is_run s.1 n) (part_by at c.slots.keys) ≡ false → filter (is_by at) (waiting_in n (g n)) ≡ []
-none_by_slots c g at n h none = none_own at n (g n) never
+from_zeros : (n m : ℕ) → is_le (ordering_then (ordering_then Equal (nat_cmp 0 n)) (nat_cmp 0 m)) ≡ true
+from_zeros n m = elim (n_is n) [ inl h ↦ rw (sym (nat_cmp_is 0 n Equal h)) (last m) | inr h ↦ rw (sym (nat_cmp_is 0 n Less h)) refl ]
   where
-    never : (t : OpenActivity) → Has (g n) t → nat_le t.ready at ≡ false
-    never t has = not_true (nat_le t.ready at) (λ soon.
-        let q : Slot = slot date_of_task n t in
-        let there : contains slot_cmp c.slots q ≡ true = h.slots q ∙ one_has date_of_task n (g n) t has in
-        true≢false (sym (in_part c.slots.keys (range_contains slot_cmp Unbounded (Excluded (at + 1, 0, 0))) q there (in_time at q (leb-true t.ready at soon))) ∙ none))
+    n_is : (k : ℕ) → (0 ≡ k) ⊎ (0 < k)
+    n_is zero = inl refl
+    n_is (suc k) = inr (omega arith)
 
--- what is listed of the runs that slots up to the moment are of
-pub listed_by : (c : Calendar OpenActivity) (b : Book) (at : ℕ) (g : ℕ → List OpenActivity) (ms : List ℕ) → IsCalendar date_of_task c (tasks_at b) → ((n : ℕ) → g n ≡ tasks_at b n) → IsStrictlySortedBy nat_cmp ms
-    → ((n : ℕ) → list_any (is_run n) ms ≡ list_any (λ (s : Slot). is_run s.1 n) (part_by at c.slots.keys)) → ready_of at g ms ≡ ready_by at b
-listed_by c b at g ms h are sorted runs =
-    all_listed at g b ms (sorted_rise 0 ms (none_lower ms) sorted) are
-    (λ n from none. ap (λ ts. filter (is_by at) (waiting_in n ts)) (are n) ∙ none_by_slots c (tasks_at b) at n h (sym (runs n) ∙ none))
+    last : (k : ℕ) → is_le (nat_cmp 0 k) ≡ true
+    last k = elim (n_is k) [ inl h ↦ rw (sym (nat_cmp_is 0 k Equal h)) refl | inr h ↦ rw (sym (nat_cmp_is 0 k Less h)) refl ]
+
+-- a slot no sooner than a moment
+from_first : (first : ℕ) (q : Slot) → (first ≡ q.0) ⊎ (first < q.0) → is_le (slot_cmp (first, 0, 0) q) ≡ true
+from_first first q (inl same) = rw (sym (nat_cmp_is first q.0 Equal same)) (from_zeros q.1 q.2)
+from_first first q (inr less) = rw (sym (nat_cmp_is first q.0 Less less)) refl
+
+same_or_less : (m n : ℕ) → m ≤ n → (m ≡ n) ⊎ (m < n)
+same_or_less m n h = elim (cases_Bool (nat_le n m)) [
+  | inl low ↦ let below = leb-true n m low in inl (omega (arith, h, below))
+  | inr high ↦ inr (let less = leb-false n m high in omega (arith, less))
+]
+
+in_time : (first at : ℕ) (q : Slot) → first ≤ q.0 → q.0 ≤ at → range_contains slot_cmp (Included (first, 0, 0)) (Excluded (at + 1, 0, 0)) q ≡ true
+in_time first at q low less = rw (from_first first q (same_or_less first q.0 low), sym (nat_cmp_is (at + 1) q.0 Greater (omega (arith, less)))) refl
+
+-- what slots are looked at begins no later than it ends
+pub is_forward : (first at : ℕ) → first ≤ at + 1 → is_gt (slot_cmp (first, 0, 0) (at + 1, 0, 0)) ≡ false
+is_forward first at low = elim (same_or_less first (at + 1) low) [
+  | inl same ↦ rw (sym (nat_cmp_is first (at + 1) Equal same), sym (nat_cmp_is 0 0 Equal refl)) refl
+  | inr less ↦ rw (sym (nat_cmp_is first (at + 1) Less less)) refl
+]
+
+none_own : (p : Waiting → Bool) (n : ℕ) (ts : List OpenActivity) → ((t : OpenActivity) → Has ts t → p (n, t) ≡ false) → filter p (waiting_in n ts) ≡ []
+none_own p n [] never = refl
+none_own p n (t ∷ ts) never =
+    ap (λ v. cond v ((n, t) ∷ filter p (waiting_in n ts)) (filter p (waiting_in n ts))) (never t (inl refl)) ∙ none_own p n ts (λ x has. never x (inr has))
+
+both_are : (v w : Bool) → (v && w) ≡ true → (v ≡ true) × (w ≡ true)
+both_are true w h = (refl, h)
+both_are false w h = absurd (true≢false (sym h))
+
+-- A run that no slot between the moments is of has nothing then.
+none_by_slots : (c : Calendar OpenActivity) (g : ℕ → List OpenActivity) (first since at n : ℕ) → first ≤ since → IsCalendar date_of_task c g → list_any (λ (s : Slot). is_run s.1 n) (part_within first at c.slots.keys) ≡ false
+    → filter (is_within since at) (waiting_in n (g n)) ≡ []
+none_by_slots c g first since at n low h none = none_own (is_within since at) n (g n) never
+  where
+    never : (t : OpenActivity) → Has (g n) t → is_within since at (n, t) ≡ false
+    never t has = not_true (is_within since at (n, t)) (λ is.
+        let q : Slot = slot date_of_task n t in
+        let both = both_are (nat_le since t.ready) (is_by at (n, t)) is in
+        let late = leb-true since t.ready both.0 in
+        let there : contains slot_cmp c.slots q ≡ true = h.slots q ∙ one_has date_of_task n (g n) t has in
+        true≢false (sym (in_part c.slots.keys (range_contains slot_cmp (Included (first, 0, 0)) (Excluded (at + 1, 0, 0))) q there (in_time first at q (omega (arith, low, late)) (leb-true t.ready at both.1))) ∙ none))
+
+-- what is listed of the runs that slots between the moments are of
+pub listed_by : (c : Calendar OpenActivity) (b : Book) (first since at : ℕ) (g : ℕ → List OpenActivity) (ms : List ℕ) → first ≤ since → IsCalendar date_of_task c (tasks_at b) → ((n : ℕ) → g n ≡ tasks_at b n) → IsStrictlySortedBy nat_cmp ms
+    → ((n : ℕ) → list_any (is_run n) ms ≡ list_any (λ (s : Slot). is_run s.1 n) (part_within first at c.slots.keys)) → ready_of (is_within since at) g ms ≡ ready_within since at b
+listed_by c b first since at g ms low h are sorted runs =
+    all_listed (is_within since at) g b ms (sorted_rise 0 ms (none_lower ms) sorted) are
+    (λ n from none. ap (λ ts. filter (is_within since at) (waiting_in n ts)) (are n) ∙ none_by_slots c (tasks_at b) first since at n low h (sym (runs n) ∙ none))
 
 -- what is listed where nothing is left
-pub end_of : (at : ℕ) (g : ℕ → List OpenActivity) (ws : List Waiting) (ms : List ℕ) (all : List Waiting) → ms ≡ [] → ws ++ ready_of at g ms ≡ all → ws ≡ all
-end_of at g ws ms all none is = sym (nil_right ws) ∙ ap (λ ns. ws ++ ready_of at g ns) (sym none) ∙ is
+pub end_of : (p : Waiting → Bool) (g : ℕ → List OpenActivity) (ws : List Waiting) (ms : List ℕ) (all : List Waiting) → ms ≡ [] → ws ++ ready_of p g ms ≡ all → ws ≡ all
+end_of p g ws ms all none is = sym (nil_right ws) ∙ ap (λ ns. ws ++ ready_of p g ns) (sym none) ∙ is
   where
     nil_right : (ws : List Waiting) → ws ++ [] ≡ ws
     nil_right [] = refl

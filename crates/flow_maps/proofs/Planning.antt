@@ -65,7 +65,7 @@ own_more : (rs : List Run) (r : Run) → slice_get (rs ++ r ∷ []) (length rs) 
 own_more [] r = refl
 own_more (x ∷ rs) r = own_more rs r
 
-other_more : (rs : List Run) (r : Run) (j : ℕ) → (length rs ≡ j → ⊥) → slice_get (rs ++ r ∷ []) j ≡ slice_get rs j
+pub other_more : (rs : List Run) (r : Run) (j : ℕ) → (length rs ≡ j → ⊥) → slice_get (rs ++ r ∷ []) j ≡ slice_get rs j
 other_more [] r zero apart = absurd (apart refl)
 other_more [] r (suc j) apart = refl
 other_more (x ∷ rs) r zero apart = refl
@@ -130,7 +130,7 @@ pub count_more : (rs : List Run) (r : Run) → length (filter is_open_run (rs ++
 count_more [] r = let e = len_filter r [] in omega (arith, e)
 count_more (x ∷ rs) r = let a = len_filter x (rs ++ r ∷ []) in let b = len_filter x rs in let e = count_more rs r in omega (arith, a, b, e)
 
-longer : (rs : List Run) (r : Run) → length (rs ++ r ∷ []) ≡ length rs + 1
+pub longer : (rs : List Run) (r : Run) → length (rs ++ r ∷ []) ≡ length rs + 1
 longer [] r = refl
 longer (x ∷ rs) r = let e = longer rs r in omega (arith, e)
 
@@ -223,6 +223,35 @@ went_open b after r s run was now there runs before behind =
 
 pub run_set : (b : Book) (n : ℕ) (f : Run → Run) (r : Run) → nth b.runs n ≡ Some r → (with_run b n f).runs ≡ slice_set b.runs (n - 1) (f r)
 run_set b n f r there = ap (λ (x : Book). x.runs) (sym (book_is b n f r there))
+
+-- one that is again as it was
+pub set_back : (p : Plans) (c : Book) (run : ℕ) (x r : Run) (ts : List Timer) (ks : List OpenActivity) → nth c.runs run ≡ Some x → ts ≡ timers_of r → ks ≡ tasks_of r
+    → ArePlans p (length c.runs) (open_runs (record c { runs = slice_set c.runs (run - 1) r })) (replaced run ts (timers_at c)) (replaced run ks (tasks_at c)) → IsPlan p (record c { runs = slice_set c.runs (run - 1) r })
+set_back p c run x r ts ks there times tasks h = record {
+  counted = h.counted ∙ sym (as_long c.runs (run - 1) r);
+  opened = h.opened;
+  timers = calendar_same date_of_timer p.timers (replaced run ts (timers_at c)) (timers_at (record c { runs = slice_set c.runs (run - 1) r }))
+      (λ n. ap (λ xs. replaced run xs (timers_at c) n) times ∙ sym (at_set timers_of c.runs run x r there n)) h.timers;
+  tasks = calendar_same date_of_task p.tasks (replaced run ks (tasks_at c)) (tasks_at (record c { runs = slice_set c.runs (run - 1) r }))
+      (λ n. ap (λ xs. replaced run xs (tasks_at c) n) tasks ∙ sym (at_set tasks_of c.runs run x r there n)) h.tasks;
+}
+
+-- one that has gone from the end
+module _ {A : Type 0} (h : Run → List A) (b : Book) (r : Run) (run : ℕ) (at : run ≡ length b.runs + 1) where
+  gone_from : (n : ℕ) → cond (is_run run n) [] (of_run h (nth (b.runs ++ r ∷ []) n)) ≡ of_run h (nth b.runs n)
+  gone_from n =
+      ap (cond (is_run run n) []) (new_run h b r run at n) ∙ cond_twice (is_run run n) [] (h r) (of_run h (nth b.runs n))
+      ∙ ap (λ xs. cond (is_run run n) xs (of_run h (nth b.runs n))) (sym (no_run_yet h b run at)) ∙ same_replaced run (λ k. of_run h (nth b.runs k)) n
+
+pub gone_back : (p : Plans) (b : Book) (r : Run) (run opened : ℕ) → run ≡ length b.runs + 1 → p.count ≡ length b.runs → p.opened ≡ opened → opened + one_if (is_open_run r) ≡ open_runs (record b { runs = b.runs ++ r ∷ [] })
+    → IsCalendar date_of_timer p.timers (λ n. cond (is_run run n) [] (timers_at (record b { runs = b.runs ++ r ∷ [] }) n))
+    → IsCalendar date_of_task p.tasks (λ n. cond (is_run run n) [] (tasks_at (record b { runs = b.runs ++ r ∷ [] }) n)) → IsPlan p b
+gone_back p b r run opened at count is more timers tasks = record {
+  counted = count;
+  opened = is ∙ (let all = count_more b.runs r in let e : opened ≡ open_runs b = omega (arith, more, all) in e);
+  timers = calendar_same date_of_timer p.timers (λ n. cond (is_run run n) [] (timers_at (record b { runs = b.runs ++ r ∷ [] }) n)) (timers_at b) (gone_from timers_of b r run at) timers;
+  tasks = calendar_same date_of_task p.tasks (λ n. cond (is_run run n) [] (tasks_at (record b { runs = b.runs ++ r ∷ [] }) n)) (tasks_at b) (gone_from tasks_of b r run at) tasks;
+}
 
 -- another attempt
 pub attempted : (p : Plans) (b : Book) (run event attempt ready : ℕ)

@@ -20,7 +20,8 @@ use Rattle.flow_model.proofs.Logs.{nth_at}
 use Rattle.flow_maps.specs.Names.{at_name, is_name, both}
 use Rattle.flow_maps.specs.declared.signals.SignalEvents.{SignalEvents}
 use Rattle.flow_maps.specs.declared.signals.Signals.{Signals}
-use Rattle.flow_maps.specs.Signals.{at_request, asked_by, signal_of, or_later, with_history, AreOf, KnowsSignals, IsTaken}
+use Rattle.flow_maps.specs.Signals.{at_request, asked_by, signal_of, or_later, with_history, AreOf, KnowsSignals, IsTaken, IsUntaken}
+use Rattle.flow_maps.specs.declared.signals.SignalTaken.TheVariants.{First}
 use Rattle.flow_maps.proofs.Naming.{by_name, both_own, both_flow, both_request}
 use Rattle.flow_maps.proofs.Serving.{none_is_there, run_is}
 
@@ -246,12 +247,15 @@ pub none_recorded : (m : SignalEvents) (b : Book) → ((f q : Bytes) → at_requ
 none_recorded m b empty none = λ f q. empty f q ∙ sym (ap (signalled_from f q 1) none)
 
 -- a turn with which no signal came
+pub quiet_turn : (b : Book) (run : ℕ) (t : Turn) (r : Run) → nth b.runs run ≡ Some r → asked_by t.input ≡ None → (f q : Bytes) → signalled (changed b (AddTurn run t)) f q ≡ signalled b f q
+quiet_turn b run t r at none f q = turn_stays b (changed b (AddTurn run t)) run t r f q (has_turn b run t r at) (quiet_says f q t r (named_none q (asked_by t.input) none))
+
 pub turn_quiet : (s : Signals) (b : Book) (run : ℕ) (t : Turn) (r : Run) → nth b.runs run ≡ Some r → asked_by t.input ≡ None → KnowsSignals s b → KnowsSignals s (changed b (AddTurn run t))
-turn_quiet s b run t r at none = stays_known s b (changed b (AddTurn run t)) (λ f q. turn_stays b (changed b (AddTurn run t)) run t r f q (has_turn b run t r at) (quiet_says f q t r (named_none q (asked_by t.input) none)))
+turn_quiet s b run t r at none = stays_known s b (changed b (AddTurn run t)) (quiet_turn b run t r at none)
 
 -- a change of one run that leaves its flow and its history
-pub set_quiet : (s : Signals) (b : Book) (n : ℕ) (f : Run → Run) → ((fl q : Bytes) (r : Run) → said fl q (f r) ≡ said fl q r) → KnowsSignals s b → KnowsSignals s (with_run b n f)
-set_quiet s b n f same h = go (nth b.runs n) refl
+quiet_set : (b : Book) (n : ℕ) (f : Run → Run) → ((fl q : Bytes) (r : Run) → said fl q (f r) ≡ said fl q r) → (fl q : Bytes) → signalled (with_run b n f) fl q ≡ signalled b fl q
+quiet_set b n f same fl q = go (nth b.runs n) refl
   where
     there : (m : ℕ) (r : Run) → nth b.runs m ≡ Some r → (fl q : Bytes) → signalled (record b { runs = slice_set b.runs (m - 1) (f r) }) fl q ≡ signalled b fl q
     there zero r at fl q = absurd (none_is r at)
@@ -259,9 +263,16 @@ set_quiet s b n f same h = go (nth b.runs n) refl
         let back : suc i - 1 ≡ i = omega arith in
         ap (λ k. signalled_from fl q 1 (slice_set b.runs k (f r))) back ∙ stays fl q 1 b.runs i r (f r) (sym (nth_at b.runs (suc i) i refl) ∙ at) (same fl q r)
 
-    go : (o : Option Run) → nth b.runs n ≡ o → KnowsSignals s (with_run b n f)
-    go None is = subst (KnowsSignals s) (none_is_there b n f is) h
-    go (Some r) is = subst (KnowsSignals s) (run_is b n f r is) (stays_known s b (record b { runs = slice_set b.runs (n - 1) (f r) }) (there n r is) h)
+    go : (o : Option Run) → nth b.runs n ≡ o → signalled (with_run b n f) fl q ≡ signalled b fl q
+    go None is = ap (λ (x : Book). signalled x fl q) (sym (none_is_there b n f is))
+    go (Some r) is = ap (λ (x : Book). signalled x fl q) (sym (run_is b n f r is)) ∙ there n r is fl q
+
+pub set_quiet : (s : Signals) (b : Book) (n : ℕ) (f : Run → Run) → ((fl q : Bytes) (r : Run) → said fl q (f r) ≡ said fl q r) → KnowsSignals s b → KnowsSignals s (with_run b n f)
+set_quiet s b n f same h = stays_known s b (with_run b n f) (quiet_set b n f same) h
+
+-- and so one that leaves what it is told by
+pub quiet_kept : (b : Book) (n : ℕ) (f : Run → Run) → ((r : Run) → (f r).flow ≡ r.flow) → ((r : Run) → (f r).history ≡ r.history) → (fl q : Bytes) → signalled (with_run b n f) fl q ≡ signalled b fl q
+quiet_kept b n f flow history = quiet_set b n f (λ fl q r. ap (λ v. if bytes_eq v fl then signal_in q (f r).history else None) (flow r) ∙ ap (λ h. if bytes_eq r.flow fl then signal_in q h else None) (history r))
 
 first_says : (flow : Bytes) (request : Option Bytes) (text : ℕ) (t : Turn) (f q : Bytes) → said f q (unbegun_run flow request text) ≡ None
 first_says flow request text t f q = go (bytes_eq flow f)
@@ -271,8 +282,11 @@ first_says flow request text t f q = go (bytes_eq flow f)
     go false = refl
 
 -- a run that begins with none
+pub quiet_run : (b : Book) (flow : Bytes) (request : Option Bytes) (text : ℕ) (t : Turn) → asked_by t.input ≡ None → (f q : Bytes) → signalled (changed b (AddRun flow request text t)) f q ≡ signalled b f q
+quiet_run b flow request text t none f q = behind f q 1 b.runs (with_turn t (unbegun_run flow request text)) (quiet_says f q t (unbegun_run flow request text) (named_none q (asked_by t.input) none) ∙ first_says flow request text t f q)
+
 pub run_quiet : (s : Signals) (b : Book) (flow : Bytes) (request : Option Bytes) (text : ℕ) (t : Turn) → asked_by t.input ≡ None → KnowsSignals s b → KnowsSignals s (changed b (AddRun flow request text t))
-run_quiet s b flow request text t none = stays_known s b (changed b (AddRun flow request text t)) (λ f q. behind f q 1 b.runs (with_turn t (unbegun_run flow request text)) (quiet_says f q t (unbegun_run flow request text) (named_none q (asked_by t.input) none) ∙ first_says flow request text t f q))
+run_quiet s b flow request text t none = stays_known s b (changed b (AddRun flow request text t)) (quiet_run b flow request text t none)
 
 -- one more run, with those that it has taken
 pub append_known : (m m' : SignalEvents) (b : Book) (r : Run) (flow : Bytes) (run : ℕ) (h : List Event) → run ≡ length b.runs + 1 → r.flow ≡ flow → r.history ≡ h
@@ -306,6 +320,40 @@ taken_known m m' b c flow request run count taken free more are = λ f q. more f
         let same = (bytes_eq-Decides flow f).0 is in
         subst (λ x. or_later (at_request m x q) (if bytes_eq (both flow request) (both x q) then Some (run, count + 1) else None) ≡ signalled c x q) same (own q (bytes_eq request q) refl)
     go f q false is = other f q (both_flow flow f request q is) (taken.others f is q)
+
+---- What a run didn't take
+
+-- the first signal of a request, which the run has taken
+pub first_untaken : (b c : Book) (flow request : Bytes) (run count : ℕ) → IsTaken b c flow run count request → signalled b flow request ≡ None → IsUntaken (First request) flow b c
+first_untaken b c flow request run count taken free = λ f q. go f q (bytes_eq flow f) refl
+  where
+    other : (f q : Bytes) → bytes_eq (both flow request) (both f q) ≡ false → signalled c f q ≡ signalled b f q → signalled b f q ≡ (if bytes_eq (both flow request) (both f q) then None else signalled c f q)
+    other f q is same = sym same ∙ sym (ap (λ v. if v then None else signalled c f q) is)
+
+    own : (q : Bytes) (v : Bool) → bytes_eq request q ≡ v → signalled b flow q ≡ (if bytes_eq (both flow request) (both flow q) then None else signalled c flow q)
+    own q true is =
+        let same = (bytes_eq-Decides request q).0 is in
+        subst (λ x. signalled b flow x ≡ (if bytes_eq (both flow request) (both flow x) then None else signalled c flow x)) same
+        (free ∙ sym (ap (λ v. if v then None else signalled c flow request) (both_own flow request)))
+    own q false is = other flow q (both_request flow flow request q is) (taken.same q is)
+
+    go : (f q : Bytes) (v : Bool) → bytes_eq flow f ≡ v → signalled b f q ≡ (if bytes_eq (both flow request) (both f q) then None else signalled c f q)
+    go f q true is =
+        let same = (bytes_eq-Decides flow f).0 is in
+        subst (λ x. signalled b x q ≡ (if bytes_eq (both flow request) (both x q) then None else signalled c x q)) same (own q (bytes_eq request q) refl)
+    go f q false is = other f q (both_flow flow f request q is) (taken.others f is q)
+
+pub untaken_known : (m m' : SignalEvents) (b c : Book) (flow request : Bytes) → ((f q : Bytes) → at_request m' f q ≡ (if bytes_eq (both flow request) (both f q) then None else at_request m f q))
+    → IsUntaken (First request) flow b c → AreOf m c → AreOf m' b
+untaken_known m m' b c flow request gone untaken are = λ f q. gone f q ∙ ap (λ o. if bytes_eq (both flow request) (both f q) then None else o) (are f q) ∙ sym (untaken f q)
+
+-- its name is taken out
+pub removed : (m n : BTreeMap Bytes (ℕ × ℕ)) (name k : Bytes) → name ≡ k → ((q : Bytes) → at_name n q ≡ update bytes_eq (at_name m) name None q) → (q : Bytes) → at_name n q ≡ (if bytes_eq k q then None else at_name m q)
+removed m n name k named updates q = updates q ∙ ap (λ y. update bytes_eq (at_name m) y None q) named ∙ go (bytes_eq k q)
+  where
+    go : (v : Bool) → cond v None (at_name m q) ≡ (if v then None else at_name m q)
+    go true = refl
+    go false = refl
 
 ---- The map of signals
 

@@ -116,12 +116,12 @@ in_runs (r ∷ rs) n zero t has = subst (λ m. Has (waiting_from n (r ∷ rs)) (
 in_runs (r ∷ rs) n (suc k) t has =
     subst (λ m. Has (waiting_from n (r ∷ rs)) (m, t)) (let e : (n + 1) + k ≡ n + suc k = omega arith in e) (in_second (waiting_in n r.tasks) (waiting_from (n + 1) rs) ((n + 1) + k, t) (in_runs rs (n + 1) k t has))
 
-waits_at : (b : Book) (w : Waiting) → Has (waiting b) w → Has (tasks_at b w.0) w.1
+pub waits_at : (b : Book) (w : Waiting) → Has (waiting b) w → Has (tasks_at b w.0) w.1
 waits_at b w has =
     let it = of_runs b.runs 1 w has in
     subst (λ n. Has (tasks_at b n) w.1) (sym it.1) (subst (λ o. Has (of_run tasks_of o) w.1) (sym (nth_at b.runs (1 + it.0) it.0 (omega arith))) it.2)
 
-at_waits : (b : Book) (n : ℕ) (t : OpenActivity) → Has (tasks_at b n) t → Has (waiting b) (n, t)
+pub at_waits : (b : Book) (n : ℕ) (t : OpenActivity) → Has (tasks_at b n) t → Has (waiting b) (n, t)
 at_waits b zero t has = absurd has
 at_waits b (suc k) t has =
     subst (λ m. Has (waiting b) (m, t)) (let e : 1 + k ≡ suc k = omega arith in e) (in_runs b.runs 1 k t (subst (λ o. Has (of_run tasks_of o) t) (nth_at b.runs (suc k) k refl) has))

@@ -1,8 +1,10 @@
 -- What no change of a book takes back: its texts, and the events of its runs.
-use Rattle.std.proofs.Common.{◌≡◌, ◌+◌, ◌<◌, ℕ, zero, suc, Bool, true, false, cond, List, [], ◌∷◌, ◌++◌, length, Option, Some, None, slice_get, refl, sym, ap, subst, ◌∙◌, arith, get_or}
-use Rattle.std.specs.Prelude.{IfSome}
-use Rattle.std.specs.BTreeMap.{get}
-use Rattle.std.specs.Ordering.{nat_cmp}
+use Rattle.std.proofs.Common.{◌≡◌, ◌+◌, ◌<◌, ◌≤◌, ℕ, zero, suc, Bool, true, false, cond, List, [], ◌∷◌, ◌++◌, length, Option, Some, None, slice_get, refl, sym, ap, subst, ◌∙◌, arith, get_or, inl, inr}
+use Rattle.std.specs.Prelude.{IfSome, ◌⊎◌}
+use Rattle.std.specs.BTreeMap.{BTreeMap, get, IsUpperBound}
+use Rattle.std.specs.Ordering.{nat_cmp, is_lt}
+use Rattle.std.proofs.Common.{Ordering, Less, Equal, Greater, is_some}
+use Rattle.std.proofs.lemmas.Cmp.{ranked, nat_cmp_total, tied_itself}
 use Rattle.flow_base.specs.Syntax.{Bytes}
 use Rattle.flow_base.specs.declared.event.Cmd.{Cmd}
 use Rattle.flow_base.specs.declared.event.Event.{Event}
@@ -19,16 +21,28 @@ use Rattle.flow_view.specs.declared.head.Head.{Head}
 use Rattle.flow_maps.specs.declared.calls.Calls.{Calls}
 use Rattle.flow_maps.specs.declared.records.Records.{Records}
 use Rattle.flow_maps.specs.declared.texts.TextBodies.{TextBodies}
-use Rattle.flow_maps.specs.KnownCalls.{IsEventAt, KnowsCalls, Place, place_cmp, is_place}
+use Rattle.flow_maps.specs.KnownCalls.{AreWithout, IsEventAt, KnowsCalls, Place, place_cmp, is_place}
 use Rattle.flow_maps.specs.KnownRecords.{KnowsRecords}
 use Rattle.flow_maps.specs.KnownTexts.{IsText, KnowsTexts}
 use Rattle.flow_maps.specs.OfRuns.{is_run}
-use Rattle.flow_maps.proofs.Headed.{nth_more, own_run, other_run, one_more}
+use Rattle.flow_maps.specs.Undoing.{IsCut}
+use Rattle.flow_maps.proofs.Headed.{nth_less, nth_more, own_run, other_run, one_more}
 use Rattle.flow_maps.proofs.Serving.{run_is as book_is, none_is_there}
-use Rattle.flow_maps.proofs.Slots.{both_eq, run_is}
+use Rattle.flow_maps.proofs.Slots.{both_eq, run_is, run_itself}
 
 none_is : {A : Type 0} (x : A) → None ≡ Some x → ⊥
 none_is x h = let same = h in cc
+
+clash : (b : Bool) → b ≡ true → b ≡ false → ⊥
+clash true t f = let e = f in cc
+clash false t f = let e = t in cc
+
+-- what is below another number, and not that
+fewer : (n last most : ℕ) → (n ≡ last → ⊥) → n ≤ last → last ≤ most + 1 → n ≤ most
+fewer zero last most apart less all = omega arith
+fewer (suc n) zero most apart less all = absurd (omega (arith, less))
+fewer (suc n) (suc last) zero apart less all = absurd (apart (omega (arith, less, all)))
+fewer (suc n) (suc last) (suc most) apart less all = let e = fewer n last most (λ same. apart (ap suc same)) (omega (arith, less)) (omega (arith, all)) in omega (arith, e)
 
 ---- Texts
 
@@ -59,6 +73,47 @@ text_in m m' number t put b at knows n = subst (λ o. IsText o (nth b.texts n)) 
     by : (v : Bool) → is_run number n ≡ v → IsText (cond v (Some t) (get nat_cmp m.known n)) (nth b.texts n)
     by true own = subst (λ k. nth b.texts k ≡ Some t) (run_is number n own) at
     by false other = knows n
+
+at_most : (k n : ℕ) (o : Ordering) → o ≡ nat_cmp k n → is_lt o ≡ false → n ≤ k
+at_most k n Less is h = absurd (clash true refl h)
+at_most k n Equal is h = let same = ranked k n Equal is in omega (arith, same)
+at_most k n Greater is h = let less = ranked k n Greater is in omega (arith, less)
+
+-- the last number is at least as high as each that is known
+none_past : {A : Type 0} (xs : List A) (y : A) (n : ℕ) (z : A) → nth (xs ++ y ∷ []) n ≡ Some z → n ≤ length xs + 1
+none_past xs y zero z at = omega arith
+none_past xs y (suc k) z at = within xs k (sym (nth_at (xs ++ y ∷ []) (suc k) k refl) ∙ at)
+  where
+    within : (ws : List A) (j : ℕ) → slice_get (ws ++ y ∷ []) j ≡ Some z → suc j ≤ length ws + 1
+    within [] zero at = omega arith
+    within [] (suc j) at = absurd (none_is z at)
+    within (w ∷ ws) zero at = omega arith
+    within (w ∷ ws) (suc j) at = let e = within ws j at in omega (arith, e)
+
+nth_before : {A : Type 0} (xs : List A) (y : A) (n : ℕ) → n ≤ length xs → nth (xs ++ y ∷ []) n ≡ nth xs n
+nth_before xs y zero less = refl
+nth_before xs y (suc k) less = nth_at (xs ++ y ∷ []) (suc k) k refl ∙ before xs k less ∙ sym (nth_at xs (suc k) k refl)
+  where
+    before : (ws : List A) (j : ℕ) → suc j ≤ length ws → slice_get (ws ++ y ∷ []) j ≡ slice_get ws j
+    before [] j less = absurd (omega (arith, less))
+    before (w ∷ ws) zero less = refl
+    before (w ∷ ws) (suc j) less = before ws j (omega (arith, less))
+
+-- the last of the texts that are known goes, and with it the last text
+pub text_less : (m m' : TextBodies) (last : ℕ) (x : Bytes) (b : Book) (t : Bytes) → get nat_cmp m.known last ≡ Some x → IsUpperBound nat_cmp m.known last
+    → ((n : ℕ) → get nat_cmp m'.known n ≡ cond (is_run last n) None (get nat_cmp m.known n)) → KnowsTexts m (record b { texts = b.texts ++ t ∷ [] }) → KnowsTexts m' b
+text_less m m' last x b t there greatest out knows n = subst (λ o. IsText o (nth b.texts n)) (sym (out n)) (by (is_run last n) (get nat_cmp m.known n) refl refl (knows n))
+  where
+    most : last ≤ length b.texts + 1
+    most = none_past b.texts t last x (subst (λ o. IsText o (nth (b.texts ++ t ∷ []) last)) there (knows last))
+
+    by : (v : Bool) (o : Option Bytes) → is_run last n ≡ v → get nat_cmp m.known n ≡ o → IsText o (nth (b.texts ++ t ∷ []) n) → IsText (cond v None o) (nth b.texts n)
+    by true o own is h = tt
+    by false None other is h = tt
+    by false (Some y) other is h =
+        let less = at_most last n (nat_cmp last n) refl (greatest n (ap is_some is)) in
+        let apart : (n ≡ last → ⊥) = λ same. clash (is_run last n) (subst (λ k. is_run last k ≡ true) (sym same) (run_itself last)) other in
+        sym (nth_before b.texts t n (fewer n last (length b.texts) apart less most)) ∙ h
 
 pub text_found : (m : TextBodies) (number : ℕ) (k : Bytes) (o : Option Bytes) → get nat_cmp m.known number ≡ Some k → IfSome o (λ t. t ≡ k) → IfSome o (λ t. (b : Book) → KnowsTexts m b → Some t ≡ nth b.texts number)
 text_found m number k None there is = tt
@@ -142,6 +197,80 @@ call_out m m' run id out b knows q = subst (λ o. IsEventAt b.runs q o) (sym (ou
 pub call_found : (m : Calls) (run id : ℕ) (k : Event) (o : Option Event) → get place_cmp m.known (run, id) ≡ Some k → IfSome o (λ e. e ≡ k) → IfSome o (λ e. (b : Book) → KnowsCalls m b → Some e ≡ event_at b.runs run id)
 call_found m run id k None there is = tt
 call_found m run id k (Some e) there is = λ b knows. ap Some is ∙ sym (subst (λ o. IsEventAt b.runs (run, id) o) there (knows (run, id)))
+
+place_itself : (x : Place) → is_place x x ≡ true
+place_itself x = rw (tied_itself nat_cmp_total x.0, tied_itself nat_cmp_total x.1) refl
+
+-- one more of a run's events is known no more
+pub gone_on : (m m' : BTreeMap Place Event) (run count id : ℕ) → ((q : Place) → get place_cmp m' q ≡ cond (is_place (run, id + 1) q) None (get place_cmp m q)) → ((k : ℕ) → count < k → k ≤ id → get place_cmp m (run, k) ≡ None) → (k : ℕ) → count < k → k ≤ id + 1 → get place_cmp m' (run, k) ≡ None
+gone_on m m' run count id out gone k more less = out (run, k) ∙ by (is_place (run, id + 1) (run, k)) refl
+  where
+    by : (v : Bool) → is_place (run, id + 1) (run, k) ≡ v → cond v None (get place_cmp m (run, k)) ≡ None
+    by true own = refl
+    by false other =
+        let apart : (k ≡ id + 1 → ⊥) = λ same. clash (is_place (run, id + 1) (run, k)) (subst (λ n. is_place (run, id + 1) (run, n) ≡ true) (sym same) (place_itself (run, id + 1))) other in
+        gone k more (fewer k (id + 1) id apart less (omega arith))
+
+pub others_on : (old m m' : BTreeMap Place Event) (run id : ℕ) → ((q : Place) → get place_cmp m' q ≡ cond (is_place (run, id + 1) q) None (get place_cmp m q))
+    → ((q : Place) → (get place_cmp m q ≡ get place_cmp old q) ⊎ (get place_cmp m q ≡ None)) → (q : Place) → (get place_cmp m' q ≡ get place_cmp old q) ⊎ (get place_cmp m' q ≡ None)
+others_on old m m' run id out others q = by (is_place (run, id + 1) q) refl
+  where
+    on : get place_cmp m' q ≡ get place_cmp m q → (get place_cmp m q ≡ get place_cmp old q) ⊎ (get place_cmp m q ≡ None) → (get place_cmp m' q ≡ get place_cmp old q) ⊎ (get place_cmp m' q ≡ None)
+    on is (inl same) = inl (is ∙ same)
+    on is (inr none) = inr (is ∙ none)
+
+    by : (v : Bool) → is_place (run, id + 1) q ≡ v → (get place_cmp m' q ≡ get place_cmp old q) ⊎ (get place_cmp m' q ≡ None)
+    by true own = inr (out q ∙ ap (λ v. cond v None (get place_cmp m q)) own)
+    by false other = on (out q ∙ ap (λ v. cond v None (get place_cmp m q)) other) (others q)
+
+-- where a run has no event behind so many any more, nor the book
+pub calls_less : (m m' : Calls) (run count last : ℕ) (b c : Book) → ((id : ℕ) → count < id → id ≤ last → get place_cmp m'.known (run, id) ≡ None)
+    → ((q : Place) → (get place_cmp m'.known q ≡ get place_cmp m.known q) ⊎ (get place_cmp m'.known q ≡ None)) → AreWithout run count last b c → KnowsCalls m c → KnowsCalls m' b
+calls_less m m' run count last b c gone others without knows q = by (get place_cmp m'.known q) refl (others q)
+  where
+    found : (e : Event) → get place_cmp m'.known q ≡ Some e → (event_at b.runs q.0 q.1 ≡ Some e) ⊎ ((q.0 ≡ run) × (count < q.1) × (q.1 ≤ last)) → event_at b.runs q.0 q.1 ≡ Some e
+    found e is (inl there) = there
+    found e is (inr (own, more, less)) = absurd (none_is e (sym (subst (λ n. get place_cmp m'.known (n, q.1) ≡ None) (sym own) (gone q.1 more less)) ∙ is))
+
+    by : (o : Option Event) → get place_cmp m'.known q ≡ o → (get place_cmp m'.known q ≡ get place_cmp m.known q) ⊎ (get place_cmp m'.known q ≡ None) → IsEventAt b.runs q o
+    by None is w = tt
+    by (Some e) is (inr none) = absurd (none_is e (sym none ∙ is))
+    by (Some e) is (inl same) = found e is (without q e (subst (λ o. IsEventAt c.runs q o) (sym same ∙ is) (knows q)))
+
+-- a run that is again as it was
+pub cut_calls : (c : Book) (run last : ℕ) (x r : Run) → nth c.runs run ≡ Some x → IsCut r.history x.history last → AreWithout run (length r.history) last (with_run c run (λ _. r)) c
+cut_calls c run last x r there cut q e at = by (is_run run q.0) refl
+  where
+    back : Book
+    back = with_run c run (λ _. r)
+
+    own_event : (event_of r.history q.1 ≡ Some e) ⊎ ((length r.history < q.1) × (q.1 ≤ last)) → run ≡ q.0 → (event_at back.runs q.0 q.1 ≡ Some e) ⊎ ((q.0 ≡ run) × (length r.history < q.1) × (q.1 ≤ last))
+    own_event (inl here) same = inl (subst (λ n. event_at back.runs n q.1 ≡ Some e) same (ap (λ o. event_if o q.1) (own_run c run (λ _. r) x there) ∙ here))
+    own_event (inr (more, less)) same = inr (sym same, more, less)
+
+    by : (v : Bool) → is_run run q.0 ≡ v → (event_at back.runs q.0 q.1 ≡ Some e) ⊎ ((q.0 ≡ run) × (length r.history < q.1) × (q.1 ≤ last))
+    by true own =
+        let same = run_is run q.0 own in
+        own_event (cut q.1 e (sym (ap (λ o. event_if o q.1) there) ∙ subst (λ n. event_at c.runs n q.1 ≡ Some e) (sym same) at)) same
+    by false other = inl (ap (λ o. event_if o q.1) (other_run c run q.0 (λ _. r) other) ∙ at)
+
+-- a run that has gone from the end
+pub cut_last : (b : Book) (r : Run) (run events : ℕ) → run ≡ length b.runs + 1 → IsCut [] r.history events → AreWithout run 0 events b (record b { runs = b.runs ++ r ∷ [] })
+cut_last b r run events last cut q e at = by (is_run run q.0) refl
+  where
+    nothing : (id : ℕ) → event_of [] id ≡ None
+    nothing zero = refl
+    nothing (suc k) = nth_at [] (suc k) k refl
+
+    own_event : (event_of [] q.1 ≡ Some e) ⊎ ((0 < q.1) × (q.1 ≤ events)) → run ≡ q.0 → (event_at b.runs q.0 q.1 ≡ Some e) ⊎ ((q.0 ≡ run) × (0 < q.1) × (q.1 ≤ events))
+    own_event (inl here) same = absurd (none_is e (sym (nothing q.1) ∙ here))
+    own_event (inr (more, less)) same = inr (sym same, more, less)
+
+    by : (v : Bool) → is_run run q.0 ≡ v → (event_at b.runs q.0 q.1 ≡ Some e) ⊎ ((q.0 ≡ run) × (0 < q.1) × (q.1 ≤ events))
+    by true own =
+        let same = run_is run q.0 own in
+        own_event (cut q.1 e (sym (ap (λ o. event_if o q.1) (nth_next b.runs r [] run (omega (arith, last)))) ∙ subst (λ n. event_at (b.runs ++ r ∷ []) n q.1 ≡ Some e) (sym same) at)) same
+    by false other = inl (ap (λ o. event_if o q.1) (sym (nth_less b.runs r run q.0 last other)) ∙ at)
 
 ---- The event of a turn's command
 

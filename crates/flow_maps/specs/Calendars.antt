@@ -5,7 +5,7 @@ use Rattle.std.specs.declared.cmp.Ordering.{Ordering}
 use Rattle.std.specs.Ordering.{nat_cmp, is_eq, ordering_then}
 use Rattle.std.specs.BTreeSet.{BTreeSet, contains}
 use Rattle.std.specs.BTreeMap.Range.{range_contains}
-use Rattle.std.specs.declared.ops.Bound.TheVariants.{Excluded, Unbounded}
+use Rattle.std.specs.declared.ops.Bound.TheVariants.{Excluded, Included}
 use Rattle.flow_base.specs.declared.book.Due.{Due}
 use Rattle.flow_base.specs.declared.book.OpenActivity.{OpenActivity}
 use Rattle.flow_base.specs.declared.book.Timer.{Timer}
@@ -32,9 +32,9 @@ date_of_task t = (t.ready, t.event)
 abbrev pub due_of : Slot → Due
 due_of s = record { due = s.0; run = s.1; id = s.2 }
 
--- the slots up to a moment
-abbrev pub part_by : ℕ → List Slot → List Slot
-part_by at qs = filter (range_contains slot_cmp Unbounded (Excluded (at + 1, 0, 0))) qs
+-- the slots from one moment to another
+abbrev pub part_within : ℕ → ℕ → List Slot → List Slot
+part_within first at qs = filter (range_contains slot_cmp (Included (first, 0, 0)) (Excluded (at + 1, 0, 0))) qs
 
 -- m is the first moment after `at` under which something stands; none where nothing does
 abbrev pub IsNext : ℕ → BTreeSet Slot → Option ℕ → Type 0

@@ -13,3 +13,4 @@ pub mod Serving
 pub mod Signals
 pub mod Timers
 pub mod Turned
+pub mod Undoing

@@ -1,5 +1,5 @@
 -- What the runs of a book wait for at a moment, in one view: what whoever gives out its activities needs to know.
-use Rattle.std.specs.Prelude.{ℕ, ◌+◌, ◌++◌, Bool, nat_le, nat_lt, List, [], ◌∷◌, filter, Option, Some, None, option_map, if◌then◌else◌}
+use Rattle.std.specs.Prelude.{ℕ, ◌+◌, ◌++◌, ◌&&◌, Bool, nat_le, nat_lt, List, [], ◌∷◌, filter, Option, Some, None, option_map, if◌then◌else◌}
 use Rattle.flow_base.specs.declared.book.Due.{Due}
 use Rattle.flow_base.specs.declared.book.Run.{Run}
 use Rattle.flow_base.specs.declared.book.OpenActivity.{OpenActivity}
@@ -32,10 +32,17 @@ is_by at w = nat_le w.1.ready at
 abbrev pub ready_by : ℕ → Book → List Waiting
 ready_by at b = filter (is_by at) (waiting b)
 
--- those of some runs, by what runs have
-abbrev pub ready_of : ℕ → (ℕ → List OpenActivity) → List ℕ → List Waiting
-ready_of at g [] = []
-ready_of at g (n ∷ ns) = filter (is_by at) (waiting_in n (g n)) ++ ready_of at g ns
+-- and not before another one
+abbrev pub is_within : ℕ → ℕ → Waiting → Bool
+is_within since at w = nat_le since w.1.ready && is_by at w
+
+abbrev pub ready_within : ℕ → ℕ → Book → List Waiting
+ready_within since at b = filter (is_within since at) (waiting b)
+
+-- such activities of some runs, by what runs have
+abbrev pub ready_of : (Waiting → Bool) → (ℕ → List OpenActivity) → List ℕ → List Waiting
+ready_of p g [] = []
+ready_of p g (n ∷ ns) = filter p (waiting_in n (g n)) ++ ready_of p g ns
 
 -- the lesser of two moments, of which one needn't be there
 abbrev pub sooner : Option ℕ → ℕ → Option ℕ
@@ -67,6 +74,7 @@ moment_of d = d.due
 abbrev pub due_after : ℕ → Book → Option ℕ
 due_after at b = soonest at (option_map moment_of (first_timer b)) (waiting b)
 
--- What a book waits for at a moment: the activities that may be attempted by then, when more is to be done, and how many runs are open.
-abbrev pub outlook_of : ℕ → Book → BookWaits
-outlook_of at b = record { ready = ready_by at b; due = due_after at b; open_runs = open_runs b }
+-- What a book waits for at a moment: the activities that may be attempted by then and not before another moment, when more is to be
+-- done, and how many runs are open.
+abbrev pub outlook_of : ℕ → ℕ → Book → BookWaits
+outlook_of since at b = record { ready = ready_within since at b; due = due_after at b; open_runs = open_runs b }

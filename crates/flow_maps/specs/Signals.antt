@@ -9,6 +9,8 @@ use Rattle.flow_model.specs.Book.{Book, signal_in, signalled, found_in}
 use Rattle.flow_maps.specs.Names.{at_name, both}
 use Rattle.flow_maps.specs.declared.signals.SignalEvents.{SignalEvents}
 use Rattle.flow_maps.specs.declared.signals.Signals.{Signals}
+use Rattle.flow_maps.specs.declared.signals.SignalTaken.{SignalTaken}
+use Rattle.flow_maps.specs.declared.signals.SignalTaken.TheVariants.{NoSignal, First, Unsure}
 
 -- the event that records the signal of a request in the runs of a flow, by the map
 abbrev pub at_request : SignalEvents → Bytes → Bytes → Option (ℕ × ℕ)
@@ -50,3 +52,9 @@ pub record IsTaken (b c : Book) (flow : Bytes) (run count : ℕ) (request : Byte
   pub others : IsSameBut b c flow
   pub same : (q : Bytes) → bytes_eq request q ≡ false → signalled c flow q ≡ signalled b flow q
   pub taken : signalled b flow request ≡ None → signalled c flow request ≡ Some (run, count + 1)
+
+-- The first book has the signals of the second, but for that of a run of this flow which the second has more.
+abbrev pub IsUntaken : SignalTaken → Bytes → Book → Book → Type 0
+IsUntaken NoSignal flow b c = (f q : Bytes) → signalled b f q ≡ signalled c f q
+IsUntaken (First request) flow b c = (f q : Bytes) → signalled b f q ≡ (if bytes_eq (both flow request) (both f q) then None else signalled c f q)
+IsUntaken Unsure flow b c = Unit {0}

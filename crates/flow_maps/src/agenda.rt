@@ -1,5 +1,5 @@
 //! What the runs of a book wait for, in memory: kept beside a book that is changed.
-ghost use Rattle.std.specs.Prelude.{◌≡◌, ◌⊎◌, ◌+◌, ◌++◌, ◌∷◌, [], ℕ, List, Some, true, false, IfSome, length, map};
+ghost use Rattle.std.specs.Prelude.{◌≡◌, ◌⊎◌, ◌+◌, ◌++◌, ◌∷◌, ◌-◌, [], ℕ, List, Some, true, false, IfSome, length, map, slice_set};
 ghost use Rattle.flow_base.specs.Syntax.{Bytes};
 ghost use Rattle.flow_base.specs.declared.book.Change.TheVariants.{AddRun, AddTurn, SetAttempt};
 ghost use Rattle.flow_base.specs.declared.book.Run.{Run as ARun};
@@ -18,8 +18,8 @@ use crate::calendar::Calendar;
 use crate::left::{tasks_behind, timers_behind, with_attempt};
 use crate::outlook::{BookWaits, outlook_over};
 use crate::timers::first_due;
-use crate::turned::is_open_behind;
-use flow_base::book::{Due, OpenActivity, Timer, Turn};
+use crate::turned::{count_before, is_open_behind};
+use flow_base::book::{Due, OpenActivity, Timer, Turn, copy_tasks};
 use flow_base::number::{EventId, LAST_NUMBER, Moment, RunId};
 use flow_base::sequence::Sequence;
 use std::alloc::Global;
@@ -272,14 +272,59 @@ impl Plans {
         }
     }
 
-    /// What there is to do at a moment; none where there is no memory.
-    fn outlook(&self, alloc: Global, at: Moment) -> Option<BookWaits>
-        ensures { IfSome result (λ v. (b : Book) → IsPlan self.now b → v ≡ outlook_of at b) }
+    /// A run that was open or not has these again, and now is open or isn't.
+    fn put_back(
+        &mut self,
+        run: RunId,
+        was: bool,
+        is_now: bool,
+        timers: Sequence<Timer>,
+        tasks: Sequence<OpenActivity>,
+    ) -> bool
+        ensures { result ≡ true → (n o p : ℕ) → (f : ℕ → List ATimer) → (g : ℕ → List AnActivity) → p + one_if was ≡ o + one_if is_now
+            → ArePlans self.old n o f g → ArePlans self.new n p (replaced run timers f) (replaced run tasks g) }
+    {
+        let Some(opened) = opened_by(self.opened, was, is_now) else {
+            return false;
+        };
+        self.opened = opened;
+        self.timers.take(run);
+        if !self.timers.put(run, timers) {
+            return false;
+        }
+        self.tasks.take(run);
+        self.tasks.put(run, tasks)
+    }
+
+    /// The last run, open or not, is there no more.
+    fn take_back(&mut self, is_open: bool) -> bool
+        ensures { result ≡ true → (b : Book) → (r : ARun) → is_open_run r ≡ is_open → IsPlan self.old (record b { runs = b.runs ++ r ∷ [] })
+            → IsPlan self.new b }
+    {
+        let Some(run) = RunId::new(self.count) else {
+            return false;
+        };
+        let Some(opened) = opened_by(self.opened, is_open, false) else {
+            return false;
+        };
+        let Some(count) = count_before(self.count) else {
+            return false;
+        };
+        self.count = count;
+        self.opened = opened;
+        self.timers.take(run);
+        self.tasks.take(run);
+        true
+    }
+
+    /// What there is to do at a moment, and not before another; none where there is no memory.
+    fn outlook(&self, alloc: Global, since: u64, at: Moment) -> Option<BookWaits>
+        ensures { IfSome result (λ v. (b : Book) → IsPlan self.now b → v ≡ outlook_of since at b) }
     {
         let Some(first) = first_due(&self.timers, Moment::last()) else {
             return None;
         };
-        outlook_over(alloc, first, &self.tasks, self.opened, at)
+        outlook_over(alloc, first, &self.tasks, self.opened, since, at)
     }
 }
 
@@ -403,6 +448,72 @@ impl Agenda {
         self.forget();
     }
 
+    /// A run that was open or not has these again, and now is open or isn't.
+    fn put_lists_back(
+        &mut self,
+        run: RunId,
+        was: bool,
+        is_now: bool,
+        timers: Sequence<Timer>,
+        tasks: Sequence<OpenActivity>,
+    )
+        ensures { (c : Book) → (x r : ARun) → nth c.runs run ≡ Some x → is_open_run x ≡ was → is_open_run r ≡ is_now
+            → timers ≡ timers_of r → tasks ≡ r.tasks → IsOf self.old c → IsOf self.new (record c { runs = slice_set c.runs (run - 1) r }) }
+    {
+        if let Some(plans) = &mut self.plans {
+            if plans.put_back(run, was, is_now, timers, tasks) {
+                return;
+            }
+        }
+        self.forget();
+    }
+
+    /// The same. Where its timers aren't known, or there is no memory for its activities, nothing is known any more.
+    pub fn put_back(
+        &mut self,
+        run: RunId,
+        was: bool,
+        is_now: bool,
+        timers: Option<Sequence<Timer>>,
+        tasks: &[OpenActivity],
+    )
+        ensures { (c : Book) → (x r : ARun) → nth c.runs run ≡ Some x → is_open_run x ≡ was → is_open_run r ≡ is_now
+            → IfSome timers (λ ts. ts ≡ timers_of r) → r.tasks ≡ tasks.now → IsOf self.old c
+            → IsOf self.new (record c { runs = slice_set c.runs (run - 1) r }) }
+    {
+        let Some(timers) = timers else {
+            self.forget();
+            return;
+        };
+        match copy_tasks(self.alloc, tasks) {
+            Ok(tasks) => self.put_lists_back(run, was, is_now, timers, tasks),
+            Err(_) => self.forget(),
+        }
+    }
+
+    /// The last run, open or not, is there no more.
+    pub fn take_back(&mut self, is_open: bool)
+        ensures { (b : Book) → (r : ARun) → is_open_run r ≡ is_open → IsOf self.old (record b { runs = b.runs ++ r ∷ [] })
+            → IsOf self.new b }
+    {
+        if let Some(plans) = &mut self.plans {
+            if plans.take_back(is_open) {
+                return;
+            }
+        }
+        self.forget();
+    }
+
+    /// The open timers of a run, if they are known and there is memory for them.
+    pub fn copy_timers(&self, run: RunId) -> Option<Sequence<Timer>>
+        ensures { IfSome result (λ ts. (b : Book) → IsOf self.now b → ts ≡ timers_at b run) }
+    {
+        match &self.plans {
+            Some(plans) => plans.timers.copied(run),
+            None => None,
+        }
+    }
+
     /// The number that the next run gets, if it is known how many there are.
     pub fn next_run(&self) -> Option<RunId>
         ensures { IfSome result (λ n. (b : Book) → IsOf self.now b → n ≡ length b.runs + 1) }
@@ -443,12 +554,12 @@ impl Agenda {
         }
     }
 
-    /// What the book waits for at a moment, if that is known and there is memory for the list.
-    pub fn outlook(&self, at: Moment) -> Option<BookWaits>
-        ensures { IfSome result (λ v. (b : Book) → IsOf self.now b → v ≡ outlook_of at b) }
+    /// What the book waits for at a moment, and not before another, if that is known and there is memory for the list.
+    pub fn outlook(&self, since: u64, at: Moment) -> Option<BookWaits>
+        ensures { IfSome result (λ v. (b : Book) → IsOf self.now b → v ≡ outlook_of since at b) }
     {
         match &self.plans {
-            Some(plans) => plans.outlook(self.alloc, at),
+            Some(plans) => plans.outlook(self.alloc, since, at),
             None => None,
         }
     }

@@ -1,5 +1,5 @@
 //! What the runs of a book have open, each thing under a moment: by run, and all in the order of their moments.
-ghost use Rattle.std.specs.Prelude.{◌≡◌, ◌&&◌, ◌||◌, ℕ, List, [], cond, not, true, false};
+ghost use Rattle.std.specs.Prelude.{◌≡◌, ◌&&◌, ◌||◌, ℕ, List, [], IfSome, cond, not, true, false};
 ghost use Rattle.std.specs.BTreeSet.{contains};
 ghost use Rattle.flow_maps.specs.OfRuns.{list_of, is_run};
 ghost use Rattle.flow_maps.specs.Calendars as rule;
@@ -87,6 +87,13 @@ impl<T: Dated> Calendar<T> {
         ensures { result ≡ true → (f : ℕ → List T) → IsCalendar T.date self.now f → f run ≡ [] }
     {
         self.lists.has_none(run)
+    }
+
+    /// A copy of what a run has, if there is memory for it.
+    pub fn copied(&self, run: RunId) -> Option<Sequence<T>>
+        ensures { IfSome result (λ v. (f : ℕ → List T) → IsCalendar T.date self.now f → v ≡ f run) }
+    {
+        self.lists.copied(run)
     }
 
     /// Takes what a run has, which then has nothing.

@@ -32,12 +32,13 @@ pub trait Gathers {
         ensures { (n : ℕ) → result ≡ comes_to self n [] };
 }
 
-/// What runs wait for at a moment, as far as they are listed.
+/// What runs wait for at a moment, and not before another, as far as they are listed.
 #[derive(Drop)]
 pub struct WaitingList {
     alloc: Global,
+    since: u64,
     at: Moment,
-    /// The open activities that may be attempted by then.
+    /// The open activities that may be attempted by then, and not before.
     ready: Vec<(RunId, OpenActivity)>,
     /// The first moment behind it at which another may be attempted.
     next: Option<Moment>,
@@ -61,11 +62,12 @@ fn list_open(list: &mut Vec<RunId>, number: RunId, run: &Run) -> Result<(), Allo
 
 impl WaitingList {
     /// No run yet.
-    pub fn new(alloc: Global, at: Moment) -> WaitingList
-        ensures { (n : ℕ) → (rs : List ARun) → listed_with result n rs ≡ outlook_from at n rs }
+    pub fn new(alloc: Global, since: u64, at: Moment) -> WaitingList
+        ensures { (n : ℕ) → (rs : List ARun) → listed_with result n rs ≡ outlook_from since at n rs }
     {
         WaitingList {
             alloc,
+            since,
             at,
             ready: Vec::new(alloc),
             next: None,
@@ -84,7 +86,8 @@ impl Gathers for WaitingList {
         let timers = timers_left(self.alloc, run.history.as_slice())?;
         let first = least_of(Moment::last(), number, self.first, timers.as_slice());
         let next = soonest(self.at, self.next, number, run.tasks.as_slice());
-        add_tasks(&mut self.ready, self.at, number, run.tasks.as_slice())?;
+        let tasks = run.tasks.as_slice();
+        add_tasks(&mut self.ready, self.since, self.at, number, tasks)?;
         list_open(&mut self.opened, number, run)?;
         self.next = next;
         self.first = first;
@@ -94,6 +97,7 @@ impl Gathers for WaitingList {
     fn end(self) -> BookWaits {
         let WaitingList {
             alloc: _,
+            since: _,
             at: _,
             ready,
             next,

@@ -1,11 +1,11 @@
 //! The heads of the open runs, in memory beside the book that is changed, so that no statement asks for them.
-ghost use Rattle.std.specs.Prelude.{◌≡◌, ◌+◌, ◌++◌, ◌∷◌, [], ℕ, IfOk, IfSome, Option, Some, None, cond, length, map, true};
+ghost use Rattle.std.specs.Prelude.{◌≡◌, ◌+◌, ◌-◌, ◌++◌, ◌∷◌, [], ℕ, IfOk, IfSome, Option, Some, None, cond, length, map, slice_set, true};
 ghost use Rattle.std.specs.BTreeMap.{get};
 ghost use Rattle.std.specs.Ordering.{nat_cmp};
 ghost use Rattle.flow_base.specs.Syntax.{Bytes};
 ghost use Rattle.flow_base.specs.declared.book.Change.TheVariants.{AddRun, AddTurn, SetAttempt, SetText};
 ghost use Rattle.flow_base.specs.declared.book.Run.{Run as ARun};
-ghost use Rattle.flow_model.specs.Book.{Book, at_attempt, changed, unbegun_run, with_run};
+ghost use Rattle.flow_model.specs.Book.{Book, at_attempt, changed, nth, unbegun_run, with_run};
 ghost use Rattle.flow_maps.specs.KnownHeads as rule;
 ghost use Rattle.flow_maps.specs.KnownHeads.{KnowsHeads};
 ghost use Rattle.flow_maps.specs.OfRuns.{is_run};
@@ -29,7 +29,10 @@ pub struct Heads {
     known: BTreeMap<u64, Head>,
 }
 
-fn copied_request(alloc: Global, request: &Option<Key>) -> Result<Option<Key>, AllocError>
+pub(crate) fn copied_request(
+    alloc: Global,
+    request: &Option<Key>,
+) -> Result<Option<Key>, AllocError>
     ensures { IfOk result (λ r. r ≡ request.now) }
 {
     match request {
@@ -208,6 +211,23 @@ impl Heads {
             Some(head) => self.put(run, head),
             None => {}
         }
+    }
+
+    /// A run has this head again.
+    pub fn put_back(&mut self, run: RunId, head: Head)
+        ensures { (c : Book) → (x r : ARun) → nth c.runs run ≡ Some x → heads.head_of r ≡ head → KnowsHeads self.old c
+            → KnowsHeads self.new (record c { runs = slice_set c.runs (run - 1) r }) }
+    {
+        self.take(run);
+        self.put(run, head);
+    }
+
+    /// The last run, which has this number, is there no more.
+    pub fn take_back(&mut self, run: RunId)
+        ensures { (b : Book) → (r : ARun) → run ≡ length b.runs + 1 → KnowsHeads self.old (record b { runs = b.runs ++ r ∷ [] })
+            → KnowsHeads self.new b }
+    {
+        remove(&mut self.known, run);
     }
 
     /// A run was read.

@@ -4,6 +4,7 @@ ghost use Rattle.flow_model.specs.Book.{nth};
 ghost use Rattle.flow_maps.specs.Keys.{Numbered, Lists, key_found};
 
 use crate::name::Name;
+use crate::turned::count_before;
 use flow_base::number::{LAST_NUMBER, RunId};
 use flow_base::text::Key;
 use std::alloc::Global;
@@ -75,6 +76,52 @@ impl Numbers {
         let Some(name) = Name::new(alloc, key.as_bytes()) else {
             return false;
         };
+        self.map.remove(&name);
+        true
+    }
+
+    /// A run that has no key has this one again, which none has. Whether there was memory for it.
+    fn put_back(&mut self, alloc: Global, run: RunId, key: &str) -> bool
+        ensures { result ≡ true → (ks : List (Option Bytes)) → nth ks run ≡ Some None → Numbered self.old ks
+            → Numbered self.new (slice_set ks (run - 1) (Some key.now)) }
+    {
+        let Some(name) = Name::new(alloc, key.as_bytes()) else {
+            return false;
+        };
+        if self.map.contains_key(&name) {
+            return false;
+        }
+        let Some(number) = in_four_bytes(run.get()) else {
+            return false;
+        };
+        let Ok(_) = self.map.insert(name, number) else {
+            return false;
+        };
+        true
+    }
+
+    /// The last run, which has no key, is there no more.
+    fn take_none_back(&mut self) -> bool
+        ensures { result ≡ true → (ks : List (Option Bytes)) → Numbered self.old (ks ++ None ∷ []) → Numbered self.new ks }
+    {
+        let Some(count) = count_before(self.count) else {
+            return false;
+        };
+        self.count = count;
+        true
+    }
+
+    /// The last run, which has this key, is there no more. Whether there was memory to look for it.
+    fn take_back(&mut self, alloc: Global, key: &str) -> bool
+        ensures { result ≡ true → (ks : List (Option Bytes)) → Numbered self.old (ks ++ Some key.now ∷ []) → Numbered self.new ks }
+    {
+        let Some(name) = Name::new(alloc, key.as_bytes()) else {
+            return false;
+        };
+        let Some(count) = count_before(self.count) else {
+            return false;
+        };
+        self.count = count;
         self.map.remove(&name);
         true
     }
@@ -164,6 +211,46 @@ impl Index {
     {
         let known = match &mut self.numbers {
             Some(numbers) => numbers.remove(self.alloc, key),
+            None => false,
+        };
+        if !known {
+            self.forget();
+        }
+    }
+
+    /// A run that has no key has this one again. Where another has it, or there is no memory, nothing is known any more.
+    pub fn put_back(&mut self, run: RunId, key: &str)
+        ensures { (ks : List (Option Bytes)) → nth ks run ≡ Some None → Lists self.old ks
+            → Lists self.new (slice_set ks (run - 1) (Some key.now)) }
+    {
+        let known = match &mut self.numbers {
+            Some(numbers) => numbers.put_back(self.alloc, run, key),
+            None => false,
+        };
+        if !known {
+            self.forget();
+        }
+    }
+
+    /// The last run, which has no key, is there no more.
+    pub fn take_none_back(&mut self)
+        ensures { (ks : List (Option Bytes)) → Lists self.old (ks ++ None ∷ []) → Lists self.new ks }
+    {
+        let known = match &mut self.numbers {
+            Some(numbers) => numbers.take_none_back(),
+            None => false,
+        };
+        if !known {
+            self.forget();
+        }
+    }
+
+    /// The last run, which has this key, is there no more. Without memory to look for it nothing is known any more.
+    pub fn take_back(&mut self, key: &str)
+        ensures { (ks : List (Option Bytes)) → Lists self.old (ks ++ Some key.now ∷ []) → Lists self.new ks }
+    {
+        let known = match &mut self.numbers {
+            Some(numbers) => numbers.take_back(self.alloc, key),
             None => false,
         };
         if !known {

@@ -18,3 +18,4 @@ pub mod signals;
 pub mod texts;
 pub mod timers;
 mod turned;
+pub mod undo;

@@ -1,10 +1,10 @@
 //! What is known of the runs of a book by their keys.
-ghost use Rattle.std.specs.Prelude.{◌≡◌, ◌↔◌, ◌-◌, ◌+◌, ◌++◌, ◌∷◌, [], ℕ, length, map, IfSome, IsTrue, List, Option, Some, true, slice_set};
+ghost use Rattle.std.specs.Prelude.{MatchOption, ◌≡◌, ◌↔◌, ◌-◌, ◌+◌, ◌++◌, ◌∷◌, [], ℕ, length, map, IfSome, IsTrue, List, Option, Some, true, slice_set};
 ghost use Rattle.flow_base.specs.Syntax.{Bytes};
 ghost use Rattle.flow_base.specs.declared.book.Run.{Run as ARun};
 ghost use Rattle.flow_base.specs.declared.book.Change.TheVariants.{AddRun, AddTurn};
 ghost use Rattle.flow_model.specs.Book as words;
-ghost use Rattle.flow_model.specs.Book.{Book, nth, changed};
+ghost use Rattle.flow_model.specs.Book.{Book, nth, changed, with_run};
 ghost use Rattle.flow_base.specs.declared.book.OpenActivity.{OpenActivity as AnActivity};
 ghost use Rattle.flow_base.specs.declared.book.Timer.{Timer as ATimer};
 ghost use Rattle.flow_maps.specs.Agenda as plans;
@@ -14,16 +14,19 @@ ghost use Rattle.flow_maps.specs.Signals.{KnowsSignals};
 ghost use Rattle.flow_maps.specs.Keys.{Lists};
 ghost use Rattle.flow_maps.specs.Outlooks.{outlook_of};
 ghost use Rattle.flow_maps.specs.KnownRecords.{KnowsRecords};
-ghost use Rattle.flow_maps.specs.Serving.{Serves, Sees, IsSeen, IsRead, AreKeys, AreRunKeys, Awaits, HasSignals, HasRecords, open_key, key_if, named};
+ghost use Rattle.flow_maps.specs.Undoing.{GoesBack, IsUndo, Leads, LeavesHistory, Returns, WasBefore, WasBegun, WasSo};
+ghost use Rattle.flow_maps.specs.declared.signals.SignalTaken.TheVariants.{NoSignal};
+ghost use Rattle.flow_maps.specs.Serving.{Serves, Sees, IsSeen, IsRead, AreKeys, AreRunKeys, Awaits, HasSignals, HasRecords, open_key, request_key, key_if, named};
 ghost use Rattle.flow_view.specs.Heads.{head_at, head_of, event_at};
 
 use crate::agenda::Agenda;
-use crate::heads::copied;
+use crate::heads::{copied, copied_request};
 use crate::index::Index;
 use crate::outlook::BookWaits;
 use crate::records::Records;
-use crate::signals::Signals;
-use crate::turned::is_open_behind;
+use crate::signals::{SignalTaken, Signals, is_quiet};
+use crate::turned::{count_behind, is_open_behind};
+use crate::undo::{Journal, RunBefore, RunBegun, Undo};
 use flow_base::book::{Change, Due, OpenActivity, Run, Timer, Turn};
 use flow_base::event::Event;
 use flow_base::number::{EventId, Moment, RunId, TextNo};
@@ -57,20 +60,45 @@ pub struct Maps {
     records: Records,
     seen: Option<Seen>,
     read: Option<ReadText>,
+    /// What takes the changes back that were noted since the last commit.
+    journal: Journal,
 }
 
 /// Another run in the place of one of this flow, which was open or not.
-fn put_row(flows: &mut Index, flow: &Key, was: bool, is_now: bool)
-    ensures { (b : Book) → (n : _) → (x : ARun) → (r : ARun) → nth b.runs n ≡ Some x → open_key x ≡ key_if was flow.now
+fn put_row(flows: &mut Index, run: RunId, flow: &Key, was: bool, is_now: bool)
+    ensures { (b : Book) → (x : ARun) → (r : ARun) → nth b.runs run ≡ Some x → open_key x ≡ key_if was flow.now
         → open_key r ≡ key_if is_now flow.now → Lists flows.old (map open_key b.runs)
-        → Lists flows.new (map open_key (slice_set b.runs (n - 1) r)) }
+        → Lists flows.new (map open_key (slice_set b.runs (run - 1) r)) }
 {
     if is_now {
         if !was {
-            flows.forget();
+            flows.put_back(run, flow.as_str());
         }
     } else if was {
         flows.remove(flow.as_str());
+    }
+}
+
+/// The last run is there no more, which had this request, or none.
+fn take_request_back(requests: &mut Index, request: &Option<Key>)
+    ensures { (b : Book) → (r : ARun) → r.request ≡ request.now → Lists requests.old (map request_key (b.runs ++ r ∷ []))
+        → Lists requests.new (map request_key b.runs) }
+{
+    match request {
+        Some(request) => requests.take_back(request.as_str()),
+        None => requests.take_none_back(),
+    }
+}
+
+/// The last run is there no more, which was one of this flow, open or not.
+fn take_flow_back(flows: &mut Index, flow: &Key, is_open: bool)
+    ensures { (b : Book) → (r : ARun) → open_key r ≡ key_if is_open flow.now → Lists flows.old (map open_key (b.runs ++ r ∷ []))
+        → Lists flows.new (map open_key b.runs) }
+{
+    if is_open {
+        flows.take_back(flow.as_str());
+    } else {
+        flows.take_none_back();
     }
 }
 
@@ -91,6 +119,7 @@ fn put_turn(flows: &mut Index, seen: &Option<Seen>, run: RunId, turn: &Turn)
             if is_of(read, run) {
                 put_row(
                     flows,
+                    run,
                     &read.head.flow,
                     read.head.is_open,
                     is_open_behind(read.head.is_open, turn),
@@ -213,6 +242,7 @@ impl Maps {
             records: Records::new(alloc),
             seen: None,
             read: None,
+            journal: Journal::new(alloc),
         }
     }
 
@@ -223,6 +253,7 @@ impl Maps {
         ensures signals { (b : Book) → b.runs ≡ [] → HasSignals result b }
         ensures records { (b : Book) → HasRecords result b }
         ensures sees { (b : Book) → Sees result b }
+        ensures goes_back { (b : Book) → GoesBack result b b }
     {
         Maps {
             requests: Index::new(alloc),
@@ -232,14 +263,17 @@ impl Maps {
             records: Records::new(alloc),
             seen: None,
             read: None,
+            journal: Journal::new(alloc),
         }
     }
 
-    /// From now on nothing is known.
+    /// From now on nothing is known, nor how to go back.
     pub fn forget(&mut self)
         ensures serves { (b : Book) → Serves self.new b }
         ensures sees { (b : Book) → Sees self.new b }
+        ensures goes_back { (b c : Book) → GoesBack self.new b c }
     {
+        self.journal.lose();
         self.requests.forget();
         self.flows.forget();
         self.agenda.forget();
@@ -249,16 +283,119 @@ impl Maps {
         self.read = None;
     }
 
-    /// The book that was kept is shown again: what isn't known of that one is forgotten.
-    pub fn keep_if(&mut self, is_kept: bool)
-        ensures serves { (b : Book) → (is_kept ≡ true → Serves self.old b) → Serves self.new b }
-        ensures sees { (b : Book) → Sees self.new b }
+    /// A text that came is there no more.
+    fn take_text_back(&mut self)
+        ensures { (b : Book) → (t : Bytes) → Serves self.old (record b { texts = b.texts ++ t ∷ [] }) → Serves self.new b }
     {
+        self.records.take_text_back();
+    }
+
+    /// A run that was begun is there no more.
+    fn take_run_back(&mut self, begun: RunBegun)
+        ensures { (b c : Book) → WasBegun begun b c → Serves self.old c → Serves self.new b }
+    {
+        let RunBegun {
+            number,
+            flow,
+            request,
+            is_open,
+            events,
+            is_quiet,
+        } = begun;
+        take_request_back(&mut self.requests, &request);
+        take_flow_back(&mut self.flows, &flow, is_open);
+        self.agenda.take_back(is_open);
+        self.signals.take_back_unless(is_quiet);
+        self.records.take_back(number, events);
+    }
+
+    /// A run is again as it was.
+    fn put_run_back(&mut self, before: RunBefore)
+        ensures { (b c : Book) → WasBefore before b c → Serves self.old c → Serves self.new b }
+    {
+        let RunBefore {
+            run,
+            head,
+            timers,
+            is_open,
+            events,
+            signal,
+        } = before;
+        self.signals.put_back(&head.flow, &signal);
+        put_row(&mut self.flows, run, &head.flow, is_open, head.is_open);
+        self.agenda
+            .put_back(run, is_open, head.is_open, timers, head.tasks.as_slice());
+        self.records.put_back(run, head, events);
+    }
+
+    /// One change is taken back.
+    fn take_back(&mut self, undo: Undo)
+        ensures { (b c : Book) → IsUndo undo b c → Serves self.old c → Serves self.new b }
+    {
+        match undo {
+            Undo::Text => self.take_text_back(),
+            Undo::Begun(begun) => self.take_run_back(begun),
+            Undo::Before(before) => self.put_run_back(before),
+        }
+    }
+
+    /// All these are, the newest first.
+    fn take_all_back(&mut self, mut steps: Vec<Undo>)
+        ensures { (b c : Book) → Leads steps.items b c → Serves self.old c → Serves self.new b }
+    {
+        while let Some(undo) = steps.pop() {
+            self.take_back(undo);
+        }
+    }
+
+    /// All that was noted is, where it is known how, and else nothing is known any more.
+    fn take_noted_back(&mut self, noted: Option<Vec<Undo>>)
+        ensures { (b : Book) → MatchOption noted (Unit {0}) (λ us. (c : Book) × Leads us.items b c × Serves self.old c) → Serves self.new b }
+    {
+        match noted {
+            Some(steps) => self.take_all_back(steps),
+            None => self.forget(),
+        }
+    }
+
+    /// The book that was kept is shown again: of the runs that were changed is known what was known before, and where it isn't known how
+    /// to go back, all is forgotten.
+    pub fn go_back(&mut self)
+        ensures serves { (b : Book) → Returns self.old b → Serves self.new b }
+        ensures sees { (b : Book) → Sees self.new b }
+        ensures goes_back { (b : Book) → GoesBack self.new b b }
+    {
+        let noted = self.journal.take();
+        self.take_noted_back(noted);
         self.seen = None;
         self.read = None;
-        if !is_kept {
-            self.forget();
-        }
+        self.settle();
+    }
+
+    /// The book as it is now is kept.
+    pub fn settle(&mut self)
+        ensures serves { (b : Book) → Serves self.old b → Serves self.new b }
+        ensures sees { (b : Book) → Sees self.old b → Sees self.new b }
+        ensures goes_back { (b : Book) → GoesBack self.new b b }
+    {
+        let _noted = self.journal.take();
+    }
+
+    /// Whether nothing was noted since the last commit: then what is known is of the book that was kept.
+    pub fn is_settled(&self) -> bool
+        ensures { result ≡ true → (b : Book) → Returns self.now b → Serves self.now b }
+    {
+        self.journal.is_blank()
+    }
+
+    /// It isn't known any more how to go back.
+    pub fn lose_way_back(&mut self)
+        ensures returns { (b : Book) → Returns self.new b }
+        ensures serves { (b : Book) → Serves self.old b → Serves self.new b }
+        ensures sees { (b : Book) → Sees self.old b → Sees self.new b }
+        ensures goes_back { (b c : Book) → GoesBack self.new b c }
+    {
+        self.journal.lose();
     }
 
     /// One more run, by its row: the empty text stands for no request.
@@ -269,6 +406,7 @@ impl Maps {
             → Awaits self.new (n + 1) (o + one_if is_open) f g }
         ensures records { self.new.records ≡ self.old.records }
         ensures sees { (b : Book) → Sees self.old b → Sees self.new b }
+        ensures journal { self.new.journal ≡ self.old.journal }
     {
         self.agenda.add(is_open);
         if request.len() == 0 {
@@ -289,6 +427,7 @@ impl Maps {
         ensures awaits { (n o : ℕ) → (f : ℕ → List ATimer) → (g : ℕ → List AnActivity) → Awaits self.old n o f g
             → Awaits self.new n o (replaced run (f run ++ timer.now ∷ []) f) g }
         ensures sees { (b : Book) → Sees self.old b → Sees self.new b }
+        ensures journal { self.new.journal ≡ self.old.journal }
     {
         self.agenda.add_timer(run, timer);
     }
@@ -299,6 +438,7 @@ impl Maps {
         ensures awaits { (n o : ℕ) → (f : ℕ → List ATimer) → (g : ℕ → List AnActivity) → Awaits self.old n o f g
             → Awaits self.new n o f (replaced run (g run ++ task.now ∷ []) g) }
         ensures sees { (b : Book) → Sees self.old b → Sees self.new b }
+        ensures journal { self.new.journal ≡ self.old.journal }
     {
         self.agenda.add_task(run, task);
     }
@@ -310,6 +450,7 @@ impl Maps {
         ensures signals { (b : Book) → HasSignals self.new b }
         ensures records { self.new.records ≡ self.old.records }
         ensures sees { (b : Book) → Sees self.old b → Sees self.new b }
+        ensures journal { self.new.journal ≡ self.old.journal }
     {
         self.agenda.forget();
         self.signals.forget();
@@ -319,6 +460,7 @@ impl Maps {
     pub fn see(&mut self, alloc: Global, run: RunId, head: &Head)
         ensures serves { (b : Book) → Serves self.old b → Serves self.new b }
         ensures sees { (b : Book) → (r : ARun) → nth b.runs run ≡ Some r → head_of r ≡ head.now → Sees self.old b → Sees self.new b }
+        ensures journal { self.new.journal ≡ self.old.journal }
     {
         self.seen = match copied(alloc, head) {
             Ok(head) => Some(Seen { run, head }),
@@ -330,6 +472,7 @@ impl Maps {
     pub fn see_run(&mut self, alloc: Global, run: RunId, whole: &Run)
         ensures serves { (b : Book) → Serves self.old b → Serves self.new b }
         ensures sees { (b : Book) → nth b.runs run ≡ Some whole.now → Sees self.old b → Sees self.new b }
+        ensures journal { self.new.journal ≡ self.old.journal }
     {
         self.seen = match head_of(alloc, whole) {
             Ok(head) => Some(Seen { run, head }),
@@ -341,6 +484,7 @@ impl Maps {
     pub fn see_text(&mut self, alloc: Global, number: TextNo, body: &RawText)
         ensures serves { (b : Book) → Serves self.old b → Serves self.new b }
         ensures sees { (b : Book) → nth b.texts number ≡ Some body.now → Sees self.old b → Sees self.new b }
+        ensures journal { self.new.journal ≡ self.old.journal }
     {
         if self.records.has_text(number) {
             return;
@@ -356,7 +500,7 @@ impl Maps {
         ensures keys { (b : Book) → (r : ARun) → r.request ≡ request.now → open_key r ≡ key_if is_open flow.now → AreRunKeys self.old b
             → AreRunKeys self.new (record b { runs = b.runs ++ r ∷ [] }) }
         ensures same { (self.new.agenda ≡ self.old.agenda) × (self.new.seen ≡ self.old.seen) × (self.new.read ≡ self.old.read)
-            × (self.new.signals ≡ self.old.signals) × (self.new.records ≡ self.old.records) }
+            × (self.new.signals ≡ self.old.signals) × (self.new.records ≡ self.old.records) × (self.new.journal ≡ self.old.journal) }
     {
         match request {
             Some(request) => self.requests.add(request.as_str()),
@@ -374,7 +518,8 @@ impl Maps {
         ensures signals { (b : Book) → (r : ARun) → r.flow ≡ flow.now → r.history ≡ history.now → Serves self.old b
             → HasSignals self.new (record b { runs = b.runs ++ r ∷ [] }) }
         ensures same { (self.new.requests ≡ self.old.requests) × (self.new.flows ≡ self.old.flows) × (self.new.agenda ≡ self.old.agenda)
-            × (self.new.seen ≡ self.old.seen) × (self.new.read ≡ self.old.read) × (self.new.records ≡ self.old.records) }
+            × (self.new.seen ≡ self.old.seen) × (self.new.read ≡ self.old.read) × (self.new.records ≡ self.old.records)
+            × (self.new.journal ≡ self.old.journal) }
     {
         match self.agenda.next_run() {
             Some(run) => self.signals.add_run(flow, run, history),
@@ -387,7 +532,8 @@ impl Maps {
         ensures records { (b : Book) → IsOf self.old.agenda b → HasRecords self.old b
             → HasRecords self.new (record b { runs = b.runs ++ whole.now ∷ [] }) }
         ensures same { (self.new.requests ≡ self.old.requests) × (self.new.flows ≡ self.old.flows) × (self.new.agenda ≡ self.old.agenda)
-            × (self.new.seen ≡ self.old.seen) × (self.new.read ≡ self.old.read) × (self.new.signals ≡ self.old.signals) }
+            × (self.new.seen ≡ self.old.seen) × (self.new.read ≡ self.old.read) × (self.new.signals ≡ self.old.signals)
+            × (self.new.journal ≡ self.old.journal) }
     {
         if !is_open {
             return;
@@ -409,6 +555,7 @@ impl Maps {
         ensures serves { (b : Book) → is_open ≡ plans.is_open_run whole.now → timers ≡ timers_of whole.now → tasks ≡ whole.now.tasks
             → Serves self.old b → Serves self.new (record b { runs = b.runs ++ whole.now ∷ [] }) }
         ensures sees { (b : Book) → Sees self.old b → Sees self.new b }
+        ensures journal { self.new.journal ≡ self.old.journal }
     {
         self.add_signals(&whole.flow, whole.history.as_slice());
         self.add_record(whole, is_open);
@@ -420,14 +567,15 @@ impl Maps {
     fn add_run(&mut self, flow: &Key, request: &Option<Key>, text: TextNo, turn: &Turn)
         ensures keys { (b : Book) → AreRunKeys self.old b → AreRunKeys self.new (changed b (AddRun flow.now request.now text turn.now)) }
         ensures same { (self.new.agenda ≡ self.old.agenda) × (self.new.seen ≡ self.old.seen) × (self.new.read ≡ self.old.read)
-            × (self.new.signals ≡ self.old.signals) × (self.new.records ≡ self.old.records) }
+            × (self.new.signals ≡ self.old.signals) × (self.new.records ≡ self.old.records) × (self.new.journal ≡ self.old.journal) }
     {
         self.add(flow, request, is_open_behind(false, turn));
     }
 
     fn change_keys(&mut self, change: &Change)
         ensures keys { (b : Book) → IsSeen self.old.seen b → AreRunKeys self.old b → AreRunKeys self.new (changed b change.now) }
-        ensures same { (self.new.agenda ≡ self.old.agenda) × (self.new.signals ≡ self.old.signals) × (self.new.records ≡ self.old.records) }
+        ensures same { (self.new.agenda ≡ self.old.agenda) × (self.new.signals ≡ self.old.signals) × (self.new.records ≡ self.old.records)
+            × (self.new.journal ≡ self.old.journal) }
     {
         match change {
             Change::AddText(_) => {}
@@ -438,11 +586,135 @@ impl Maps {
         }
     }
 
+    /// What is known of a run that was read, as it is before a change.
+    fn before(&self, run: RunId) -> Option<RunBefore>
+        ensures so { IfSome result (λ u. (b : Book) → IsSeen self.now.seen b → IsOf self.now.agenda b
+            → (r : ARun) × (u.run ≡ run) × WasSo u b r) }
+        ensures still { IfSome result (λ u. (u.is_open ≡ u.head.is_open) × (u.events ≡ u.head.events) × (u.signal ≡ NoSignal)) }
+    {
+        let Some(seen) = &self.seen else {
+            return None;
+        };
+        if !is_of(seen, run) {
+            return None;
+        }
+        let Ok(head) = copied(self.journal.alloc, &seen.head) else {
+            return None;
+        };
+        let is_open = head.is_open;
+        let events = head.events;
+        Some(RunBefore {
+            run,
+            head,
+            timers: self.agenda.copy_timers(run),
+            is_open,
+            events,
+            signal: SignalTaken::NoSignal,
+        })
+    }
+
+    /// What takes back a change that leaves the history of a run that was read.
+    fn kept_back(&self, run: RunId) -> Option<Undo>
+        ensures { IfSome result (λ u. (b : Book) → (f : ARun → ARun) → LeavesHistory f → IsSeen self.now.seen b → IsOf self.now.agenda b
+            → IsUndo u b (with_run b run f)) }
+    {
+        match self.before(run) {
+            Some(before) => Some(Undo::Before(before)),
+            None => None,
+        }
+    }
+
+    /// What takes back a turn of a run that was so.
+    fn behind_turn(&self, before: RunBefore, turn: &Turn) -> Option<Undo>
+        ensures { IfSome result (λ u. (b : Book) → (run : ℕ) → (r : ARun) → before.run ≡ run → WasSo before b r
+            → before.is_open ≡ before.head.is_open → before.events ≡ before.head.events → HasSignals self.now b
+            → IsUndo u b (changed b (AddTurn run turn.now))) }
+    {
+        let RunBefore {
+            run,
+            head,
+            timers,
+            is_open,
+            events,
+            signal: _,
+        } = before;
+        let signal = self.signals.taken_by(&head.flow, turn);
+        let is_open = is_open_behind(is_open, turn);
+        match count_behind(events, turn.commands.as_slice().len()) {
+            Some(events) => Some(Undo::Before(RunBefore {
+                run,
+                head,
+                timers,
+                is_open,
+                events,
+                signal,
+            })),
+            None => None,
+        }
+    }
+
+    /// What takes back a turn of a run that was read.
+    fn turn_back(&self, run: RunId, turn: &Turn) -> Option<Undo>
+        ensures { IfSome result (λ u. (b : Book) → IsSeen self.now.seen b → IsOf self.now.agenda b → HasSignals self.now b
+            → IsUndo u b (changed b (AddTurn run turn.now))) }
+    {
+        match self.before(run) {
+            Some(before) => self.behind_turn(before, turn),
+            None => None,
+        }
+    }
+
+    /// What takes back that a run begins.
+    fn begun_back(&self, flow: &Key, request: &Option<Key>, turn: &Turn) -> Option<Undo>
+        ensures { IfSome result (λ u. (b : Book) → (text : ℕ) → IsOf self.now.agenda b
+            → IsUndo u b (changed b (AddRun flow.now request.now text turn.now))) }
+    {
+        let Some(number) = self.agenda.next_run() else {
+            return None;
+        };
+        let Some(events) = count_behind(0, turn.commands.as_slice().len()) else {
+            return None;
+        };
+        let Ok(flow) = flow.copy(self.journal.alloc) else {
+            return None;
+        };
+        let Ok(request) = copied_request(self.journal.alloc, request) else {
+            return None;
+        };
+        let is_open = is_open_behind(false, turn);
+        let quiet = is_quiet(&turn.input);
+        Some(Undo::Begun(RunBegun {
+            number,
+            flow,
+            request,
+            is_open,
+            events,
+            is_quiet: quiet,
+        }))
+    }
+
+    /// What takes a change back, where that is known and there is memory for it.
+    fn back_from(&self, change: &Change) -> Option<Undo>
+        ensures { IfSome result (λ u. (b : Book) → Sees self.now b → Serves self.now b → IsUndo u b (changed b change.now)) }
+    {
+        match change {
+            Change::AddText(_) => Some(Undo::Text),
+            Change::AddRun(flow, request, _, turn) => self.begun_back(flow, request, turn),
+            Change::AddTurn(run, turn) => self.turn_back(*run, turn),
+            Change::SetAttempt(run, _, _, _) => self.kept_back(*run),
+            Change::SetText(run, _) => self.kept_back(*run),
+        }
+    }
+
     /// The book is changed so.
     pub fn note(&mut self, change: &Change)
         ensures serves { (b : Book) → Sees self.old b → Serves self.old b → Serves self.new (changed b change.now) }
         ensures sees { (b : Book) → Sees self.new b }
+        ensures goes_back { (k b : Book) → Sees self.old b → Serves self.old b → GoesBack self.old k b
+            → GoesBack self.new k (changed b change.now) }
     {
+        let undo = self.back_from(change);
+        self.journal.add(undo);
         let next = self.agenda.next_run();
         keep_read(&mut self.records, self.read.take());
         change_records(&mut self.records, &self.seen, &next, change);
@@ -509,11 +781,11 @@ impl Maps {
         self.agenda.least_due(at)
     }
 
-    /// What the book waits for at a moment, if that is known and there is memory for the list.
-    pub fn outlook(&self, at: Moment) -> Option<BookWaits>
-        ensures { IfSome result (λ v. (b : Book) → Serves self.now b → v ≡ outlook_of at b) }
+    /// What the book waits for at a moment, and not before another, if that is known and there is memory for the list.
+    pub fn outlook(&self, since: u64, at: Moment) -> Option<BookWaits>
+        ensures { IfSome result (λ v. (b : Book) → Serves self.now b → v ≡ outlook_of since at b) }
     {
-        self.agenda.outlook(at)
+        self.agenda.outlook(since, at)
     }
 
     /// Where the signal of a request is recorded in the runs of a flow, if that is known.

@@ -1,5 +1,5 @@
 //! What so many runs have, each a list of its own.
-ghost use Rattle.std.specs.Prelude.{◌≡◌, ℕ, List, [], cond, true};
+ghost use Rattle.std.specs.Prelude.{◌≡◌, ℕ, List, [], IfSome, cond, true};
 ghost use Rattle.flow_maps.specs.OfRuns.{list_of, is_run};
 
 use flow_base::number::RunId;
@@ -12,6 +12,17 @@ use std::collections::BTreeMap;
 pub struct OfRuns<T: Drop> {
     alloc: Global,
     pub(crate) lists: BTreeMap<u64, Sequence<T>>,
+}
+
+/// The same things, if there is memory for them.
+fn copy_of<T: Copy + Drop>(alloc: Global, things: &[T]) -> Option<Sequence<T>>
+    ensures { IfSome result (λ v. v ≡ things.now) }
+{
+    let mut list = Vec::new(alloc);
+    match list.extend_from_slice(things) {
+        Ok(()) => Some(Sequence::from_vec(list)),
+        Err(_) => None,
+    }
 }
 
 impl<T: Drop> OfRuns<T> {
@@ -32,6 +43,18 @@ impl<T: Drop> OfRuns<T> {
         match self.lists.get(&run.get()) {
             Some(list) => list.is_empty(),
             None => true,
+        }
+    }
+
+    /// A copy of the list of a run, if there is memory for it.
+    pub fn copied(&self, run: RunId) -> Option<Sequence<T>>
+    where
+        T: Copy,
+        ensures { IfSome result (λ v. v ≡ list_of self.now run) }
+    {
+        match self.lists.get(&run.get()) {
+            Some(things) => copy_of(self.alloc, things.as_slice()),
+            None => Some(Sequence::new(self.alloc)),
         }
     }
 

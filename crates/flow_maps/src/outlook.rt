@@ -1,14 +1,14 @@
 //! What the runs of a book wait for at a moment: what may be attempted by then, and when there is more to be done.
-ghost use Rattle.std.specs.Prelude.{◌≡◌, ◌++◌, ◌∷◌, [], ℕ, IfSome, OnOk, cond, filter, nat_le, option_map, true};
+ghost use Rattle.std.specs.Prelude.{◌≡◌, ◌≤◌, ◌+◌, ◌++◌, ◌∷◌, ◌&&◌, [], ℕ, IfSome, OnOk, cond, filter, nat_le, option_map, true};
 ghost use Rattle.std.specs.BTreeSet.{contains};
 ghost use Rattle.std.specs.List.{list_any};
 ghost use Rattle.std.specs.Ordering.{nat_cmp};
 ghost use Rattle.flow_model.specs.Book.{Book};
 ghost use Rattle.flow_maps.specs.Agenda.{open_runs as count_open, tasks_at};
-ghost use Rattle.flow_maps.specs.Calendars.{IsCalendar, IsNext, Slot, date_of_task, part_by};
+ghost use Rattle.flow_maps.specs.Calendars.{IsCalendar, IsNext, Slot, date_of_task, part_within};
 ghost use Rattle.flow_maps.specs.OfRuns.{list_of, is_run};
 ghost use Rattle.flow_maps.specs.Outlooks as rule;
-ghost use Rattle.flow_maps.specs.Outlooks.{is_by, ready_by, waiting, waiting_in};
+ghost use Rattle.flow_maps.specs.Outlooks.{is_within, ready_within, waiting, waiting_in};
 
 use crate::calendar::Calendar;
 use crate::of_runs::OfRuns;
@@ -21,7 +21,8 @@ use std::collections::BTreeSet;
 /// What a book waits for at a moment.
 #[derive(Drop)]
 pub struct BookWaits {
-    /// Its open activities that may be attempted by then with their runs, in order of run and event.
+    /// Its open activities that may be attempted by then, and not before the moment from which on they were asked for, with their
+    /// runs, in order of run and event.
     pub ready: Sequence<(RunId, OpenActivity)>,
     /// The first moment at which there is more to be done: a timer is due, or another activity may be attempted.
     pub due: Option<Moment>,
@@ -29,40 +30,44 @@ pub struct BookWaits {
     pub open_runs: u64,
 }
 
-/// Whether an attempt may be made by a moment.
-fn is_ready(at: Moment, task: &OpenActivity) -> bool
-    ensures { result ≡ nat_le task.now.ready at }
+/// Whether an attempt may be made by a moment, and not before another.
+fn is_ready(since: u64, at: Moment, task: &OpenActivity) -> bool
+    ensures { result ≡ (nat_le since task.now.ready && nat_le task.now.ready at) }
 {
-    task.ready.get() <= at.get()
+    let ready = task.ready.get();
+    since <= ready && ready <= at.get()
 }
 
-/// Lists an activity behind the others, if it may be attempted by a moment.
+/// Lists an activity behind the others, if it may be attempted by a moment and not before another.
 fn add_task(
     list: &mut Vec<(RunId, OpenActivity)>,
+    since: u64,
     at: Moment,
     run: RunId,
     task: &OpenActivity,
 ) -> Result<(), AllocError>
-    ensures { OnOk result (list.new.items ≡ cond (is_by at (run, task.now)) (list.old.items ++ (run, task.now) ∷ []) list.old.items) }
+    ensures { OnOk result (list.new.items ≡ cond (is_within since at (run, task.now)) (list.old.items ++ (run, task.now) ∷ [])
+        list.old.items) }
 {
-    if !is_ready(at, task) {
+    if !is_ready(since, at, task) {
         return Ok(());
     }
     list.push((run, *task))?;
     Ok(())
 }
 
-/// Lists what a run has that may be attempted by a moment behind the others.
+/// Lists what a run has that may be attempted by a moment, and not before another, behind the others.
 pub(crate) fn add_tasks(
     list: &mut Vec<(RunId, OpenActivity)>,
+    since: u64,
     at: Moment,
     run: RunId,
     tasks: &[OpenActivity],
 ) -> Result<(), AllocError>
-    ensures { OnOk result (list.new.items ≡ list.old.items ++ filter (is_by at) (waiting_in run tasks.now)) }
+    ensures { OnOk result (list.new.items ≡ list.old.items ++ filter (is_within since at) (waiting_in run tasks.now)) }
 {
     for task in tasks {
-        add_task(list, at, run, task)?;
+        add_task(list, since, at, run, task)?;
     }
     Ok(())
 }
@@ -70,18 +75,20 @@ pub(crate) fn add_tasks(
 /// The same of a run by its number. Whether there was memory for it.
 fn add_run(
     list: &mut Vec<(RunId, OpenActivity)>,
+    since: u64,
     at: Moment,
     number: u64,
     tasks: &OfRuns<OpenActivity>,
 ) -> bool
-    ensures { result ≡ true → list.new.items ≡ list.old.items ++ filter (is_by at) (waiting_in number (list_of tasks.now number)) }
+    ensures { result ≡ true → list.new.items ≡ list.old.items ++ filter (is_within since at)
+        (waiting_in number (list_of tasks.now number)) }
 {
     match tasks.lists.get(&number) {
         Some(tasks) => {
             let Some(run) = RunId::new(number) else {
                 return false;
             };
-            add_tasks(list, at, run, tasks.as_slice()).is_ok()
+            add_tasks(list, since, at, run, tasks.as_slice()).is_ok()
         }
         None => true,
     }
@@ -94,13 +101,30 @@ fn add_slot(runs: &mut BTreeSet<u64>, slot: &(u64, u64, u64)) -> bool
     runs.insert(slot.1).is_ok()
 }
 
-/// The runs of the slots up to a moment, in order; none where there is no memory.
-fn runs_by(alloc: Global, tasks: &Calendar<OpenActivity>, at: Moment) -> Option<BTreeSet<u64>>
+/// The moment from which on slots are looked at: past the last one there is none.
+fn first_of(since: u64, at: Moment) -> u64
+    ensures no_later { result ≤ since }
+    ensures no_further { result ≤ at + 1 }
+{
+    if at.get() < since {
+        return at.get() + 1;
+    }
+    since
+}
+
+/// The runs of the slots from one moment to another, in order; none where there is no memory.
+fn runs_within(
+    alloc: Global,
+    tasks: &Calendar<OpenActivity>,
+    first: u64,
+    at: Moment,
+) -> Option<BTreeSet<u64>>
+    requires { first ≤ at + 1 }
     ensures { IfSome result (λ s. (n : ℕ) → contains nat_cmp s n ≡ list_any (λ (q : Slot). is_run q.1 n)
-        (part_by at tasks.now.slots.keys)) }
+        (part_within first at tasks.now.slots.keys)) }
 {
     let mut runs = BTreeSet::new(alloc);
-    for slot in tasks.slots.range(..(at.get() + 1, 0, 0)) {
+    for slot in tasks.slots.range((first, 0, 0)..(at.get() + 1, 0, 0)) {
         if !add_slot(&mut runs, slot) {
             return None;
         }
@@ -108,38 +132,41 @@ fn runs_by(alloc: Global, tasks: &Calendar<OpenActivity>, at: Moment) -> Option<
     Some(runs)
 }
 
-/// What these runs have that may be attempted by a moment; none where there is no memory.
+/// What these runs have that may be attempted by a moment, and not before another; none where there is no memory.
 fn listed_of(
     alloc: Global,
     tasks: &Calendar<OpenActivity>,
     runs: &BTreeSet<u64>,
+    since: u64,
     at: Moment,
 ) -> Option<Sequence<(RunId, OpenActivity)>>
-    ensures { IfSome result (λ v. (b : Book) → IsCalendar date_of_task tasks.now (tasks_at b)
-        → ((n : ℕ) → contains nat_cmp runs.now n ≡ list_any (λ (q : Slot). is_run q.1 n) (part_by at tasks.now.slots.keys))
-        → v ≡ ready_by at b) }
+    ensures { IfSome result (λ v. (b : Book) → IsCalendar date_of_task tasks.now (tasks_at b) → (first : ℕ) → first ≤ since
+        → ((n : ℕ) → contains nat_cmp runs.now n ≡ list_any (λ (q : Slot). is_run q.1 n) (part_within first at tasks.now.slots.keys))
+        → v ≡ ready_within since at b) }
 {
     let mut list = Vec::new(alloc);
     for number in runs {
-        if !add_run(&mut list, at, *number, &tasks.lists) {
+        if !add_run(&mut list, since, at, *number, &tasks.lists) {
             return None;
         }
     }
     Some(Sequence::from_vec(list))
 }
 
-/// The open activities that may be attempted by a moment; none where there is no memory.
+/// The open activities that may be attempted by a moment, and not before another; none where there is no memory.
 fn listed(
     alloc: Global,
     tasks: &Calendar<OpenActivity>,
+    since: u64,
     at: Moment,
 ) -> Option<Sequence<(RunId, OpenActivity)>>
-    ensures { IfSome result (λ v. (b : Book) → IsCalendar date_of_task tasks.now (tasks_at b) → v ≡ ready_by at b) }
+    ensures { IfSome result (λ v. (b : Book) → IsCalendar date_of_task tasks.now (tasks_at b) → v ≡ ready_within since at b) }
 {
-    let Some(runs) = runs_by(alloc, tasks, at) else {
+    let first = first_of(since, at);
+    let Some(runs) = runs_within(alloc, tasks, first, at) else {
         return None;
     };
-    let Some(list) = listed_of(alloc, tasks, &runs, at) else {
+    let Some(list) = listed_of(alloc, tasks, &runs, since, at) else {
         return None;
     };
     Some(list)
@@ -235,21 +262,23 @@ pub(crate) fn moment_of(first: Option<Due>) -> Option<Moment>
     }
 }
 
-/// What a book waits for at a moment whose first due timer is this one, of its open activities; none where there is no memory.
+/// What a book waits for at a moment whose first due timer is this one, of its open activities those that may not be attempted before
+/// another moment; none where there is no memory.
 pub(crate) fn outlook_over(
     alloc: Global,
     first: Option<Due>,
     tasks: &Calendar<OpenActivity>,
     open_runs: u64,
+    since: u64,
     at: Moment,
 ) -> Option<BookWaits>
     ensures { IfSome result (λ v. (b : Book) → first ≡ rule.first_timer b → open_runs ≡ count_open b
-        → IsCalendar date_of_task tasks.now (tasks_at b) → v ≡ rule.outlook_of at b) }
+        → IsCalendar date_of_task tasks.now (tasks_at b) → v ≡ rule.outlook_of since at b) }
 {
     let Some(due) = next_due(moment_of(first), tasks, at) else {
         return None;
     };
-    let Some(ready) = listed(alloc, tasks, at) else {
+    let Some(ready) = listed(alloc, tasks, since, at) else {
         return None;
     };
     Some(BookWaits {

@@ -1,8 +1,12 @@
 //! What is known of single runs and texts: the heads of open runs, the events that scheduled their open activities, and texts.
-ghost use Rattle.std.specs.Prelude.{◌≡◌, ◌+◌, ◌++◌, ◌∷◌, [], IfSome, Some, length};
+ghost use Rattle.std.specs.Prelude.{◌≡◌, ◌+◌, ◌-◌, ◌++◌, ◌∷◌, [], IfSome, Some, length, slice_set};
+ghost use Rattle.flow_base.specs.Syntax.{Bytes};
 ghost use Rattle.flow_base.specs.declared.book.Change.TheVariants.{AddRun, AddTurn, SetAttempt, SetText};
+ghost use Rattle.flow_base.specs.declared.book.Run.{Run as ARun};
 ghost use Rattle.flow_model.specs.Book.{Book, nth, changed};
 ghost use Rattle.flow_maps.specs.KnownRecords.{KnowsRecords};
+ghost use Rattle.flow_maps.specs.Undoing.{IsCut};
+ghost use Rattle.flow_view.specs.Heads as heads;
 ghost use Rattle.flow_view.specs.Heads.{head_at, event_at};
 
 use crate::calls::Calls;
@@ -117,6 +121,31 @@ impl Records {
         self.heads.learn(run, head);
         self.heads.go_on(run, turn);
         self.calls.go_on(run, head, turn);
+    }
+
+    /// A run has this head again, and no event of those behind it, up to the last.
+    pub fn put_back(&mut self, run: RunId, head: Head, last: u64)
+        ensures { (c : Book) → (x r : ARun) → nth c.runs run ≡ Some x → heads.head_of r ≡ head → IsCut r.history x.history last
+            → KnowsRecords self.old c → KnowsRecords self.new (record c { runs = slice_set c.runs (run - 1) r }) }
+    {
+        self.calls.let_later_go(run, head.events, last);
+        self.heads.put_back(run, head);
+    }
+
+    /// The last run, which has this number and so many events, is there no more.
+    pub fn take_back(&mut self, run: RunId, events: u64)
+        ensures { (b : Book) → (r : ARun) → run ≡ length b.runs + 1 → IsCut [] r.history events
+            → KnowsRecords self.old (record b { runs = b.runs ++ r ∷ [] }) → KnowsRecords self.new b }
+    {
+        self.calls.let_later_go(run, 0, events);
+        self.heads.take_back(run);
+    }
+
+    /// The last text is there no more.
+    pub fn take_text_back(&mut self)
+        ensures { (b : Book) → (t : Bytes) → KnowsRecords self.old (record b { texts = b.texts ++ t ∷ [] }) → KnowsRecords self.new b }
+    {
+        self.texts.take_back();
     }
 
     /// An open activity is at another attempt.

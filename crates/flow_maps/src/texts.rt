@@ -1,7 +1,8 @@
 //! The texts that runs were last started and went on with, in memory, so that no statement asks for them.
-ghost use Rattle.std.specs.Prelude.{◌≡◌, ℕ, IfSome, Option, Some, None, cond, true};
-ghost use Rattle.std.specs.BTreeMap.{get};
+ghost use Rattle.std.specs.Prelude.{◌≡◌, ◌++◌, ◌∷◌, [], ℕ, IfSome, Option, Some, None, cond, true};
+ghost use Rattle.std.specs.BTreeMap.{get, IsUpperBound};
 ghost use Rattle.std.specs.Ordering.{nat_cmp};
+ghost use Rattle.flow_base.specs.Syntax.{Bytes};
 ghost use Rattle.flow_model.specs.Book.{Book, nth};
 ghost use Rattle.flow_maps.specs.KnownTexts.{KnowsTexts};
 ghost use Rattle.flow_maps.specs.OfRuns.{is_run};
@@ -37,6 +38,15 @@ fn insert(known: &mut BTreeMap<u64, RawText>, number: TextNo, body: RawText) -> 
     ensures { result ≡ true → (n : ℕ) → get nat_cmp known.new n ≡ cond (is_run number n) (Some body) (get nat_cmp known.old n) }
 {
     known.insert(number.get(), body).is_ok()
+}
+
+/// The last of the texts that are known, taken out.
+fn take_last(known: &mut BTreeMap<u64, RawText>) -> Option<(u64, RawText)>
+    ensures there { IfSome result (λ p. get nat_cmp known.old p.0 ≡ Some p.1) }
+    ensures last { IfSome result (λ p. IsUpperBound nat_cmp known.old p.0) }
+    ensures others { IfSome result (λ p. (n : ℕ) → get nat_cmp known.new n ≡ cond (is_run p.0 n) None (get nat_cmp known.old n)) }
+{
+    known.pop_last()
 }
 
 impl TextBodies {
@@ -83,6 +93,16 @@ impl TextBodies {
         }
         if bytes <= MOST_BYTES && self.bytes <= MOST_BYTES - bytes {
             self.bytes += bytes;
+        }
+    }
+
+    /// The last text is there no more, if it is known. Another one that is the last of those that are known may be forgotten.
+    pub fn take_back(&mut self)
+        ensures { (b : Book) → (t : Bytes) → KnowsTexts self.old (record b { texts = b.texts ++ t ∷ [] }) → KnowsTexts self.new b }
+    {
+        match take_last(&mut self.known) {
+            Some(last) => self.bytes = self.bytes.saturating_sub(last.1.as_str().len()),
+            None => self.forget(),
         }
     }
 

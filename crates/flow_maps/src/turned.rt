@@ -28,6 +28,16 @@ pub(crate) fn count_behind(count: u64, commands: usize) -> Option<u64>
     Some(count + 1 + more)
 }
 
+/// One less, if there is one.
+pub(crate) fn count_before(count: u64) -> Option<u64>
+    ensures { IfSome result (λ n. n + 1 ≡ count) }
+{
+    if count == 0 {
+        return None;
+    }
+    Some(count - 1)
+}
+
 /// Whether a run that was open or not is so behind a turn.
 pub fn is_open_behind(was: bool, turn: &Turn) -> bool
     ensures { result ≡ words.is_open_behind was turn.now }

@@ -17,3 +17,4 @@ pub mod Leaves
 pub mod Starts
 mod RunRows
 mod WorldRows
+pub mod Failures

@@ -1,5 +1,5 @@
 -- What the answer to one command says of the book, and that to commands which are applied together.
-use Rattle.std.specs.Prelude.{◌≡◌, ◌⊎◌, List, length}
+use Rattle.std.specs.Prelude.{◌≡◌, ◌⊎◌, ◌+◌, ◌≤◌, ◌-◌, ◌^◌, ℕ, List, length, min}
 use Rattle.flow_base.specs.declared.code.Code.{Code}
 use Rattle.flow_base.specs.declared.code.Code.TheVariants as code
 use Rattle.flow_base.specs.declared.command.Command.{Command}
@@ -48,3 +48,9 @@ CountsTogether cs (together.NotApplied k) = Unit {0}
 -- What stands behind a stop since it was the second stands behind it since it was the first.
 abbrev pub StopsSince : {A : Type 0} → (A → A → Book → List Command → Stop → Type 0) → A → A → Type 0
 StopsSince {A} stops old new = (e : A) (b : Book) (cs : List Command) (s : Stop) → stops new e b cs s → stops old e b cs s
+
+---- Failures
+
+-- So many failures were counted between these two counts; past its last number a store counts no further.
+abbrev pub IsMoreBy : ℕ → ℕ → ℕ → Type 0
+IsMoreBy n old new = min (old + n) (2 ^ 64 - 1) ≤ new

@@ -1,10 +1,11 @@
 //! What answers commands, one after the other.
-ghost use Rattle.std.specs.Prelude.{◌≤◌, ◌∷◌, [], List, length, IfOk, IfErr, OnOk};
+ghost use Rattle.std.specs.Prelude.{◌⊎◌, ◌≤◌, ◌∷◌, [], ℕ, List, length, IfOk, IfErr, OnOk};
 ghost use Rattle.flow_base.specs.declared.code.Code.{Code};
+ghost use Rattle.flow_base.specs.declared.code.Code.TheVariants as codes;
 ghost use Rattle.flow_base.specs.declared.command.Command.{Command};
 ghost use Rattle.flow_model.specs.Apply.{Rules};
 ghost use Rattle.flow_model.specs.Book.{Book};
-ghost use Rattle.flow_model.specs.Answers.{Answers, CausedAnswer, AnswersTogether, CausedTogether, CountsTogether, StopsSince};
+ghost use Rattle.flow_model.specs.Answers.{Answers, CausedAnswer, AnswersTogether, CausedTogether, CountsTogether, IsMoreBy, StopsSince};
 ghost use Rattle.flow_model.specs.declared.answer.Stop.{Stop};
 
 use flow_base::code::Code;
@@ -54,6 +55,12 @@ pub trait Answering {
     /// What stands behind commands that are given up together over a book, since it was the first and now that it is the second.
     ghost gives_up: { Self → Self → Book → List Command → Code → Type 0 };
 
+    /// How many failures of its store it has counted.
+    ghost failures: { Self → ℕ };
+
+    /// What else than such a failure stands behind E80 of commands over a book, since it was the first and now that it is the second.
+    ghost excuses: { Self → Self → Book → List Command → Type 0 };
+
     /// What stands behind a stop at commands over a book, since it was the first and now that it is the second.
     ghost stops: { Self → Self → Book → List Command → Stop → Type 0 };
 
@@ -90,4 +97,19 @@ pub trait Answering {
     /// And since an earlier state.
     ghost gives_up_since: { (a b c : Self) (k : Book) (cs : List Command) (code : Code)
         → follows a b → follows b c → gives_up b c k cs code → gives_up a c k cs code };
+
+    /// A failure that was counted is counted for good.
+    ghost failures_still: { (a b : Self) → is_sure b → follows a b → failures a ≤ failures b };
+
+    /// Behind E80 stands something else, or a failure that was counted in between.
+    ghost excused_or_failed: { (a b : Self) (k : Book) (cs : List Command)
+        → is_sure b → gives_up a b k cs codes.StoreRefused → excuses a b k cs ⊎ IsMoreBy 1 (failures a) (failures b) };
+
+    /// What stood behind commands beside failures stands behind them later too.
+    ghost excuses_still: { (a b c : Self) (k : Book) (cs : List Command)
+        → is_sure c → follows b c → excuses a b k cs → excuses a c k cs };
+
+    /// And since an earlier state.
+    ghost excuses_since: { (a b c : Self) (k : Book) (cs : List Command)
+        → is_sure c → follows a b → follows b c → excuses b c k cs → excuses a c k cs };
 }

@@ -37,14 +37,14 @@ request_same [] = refl
 request_same (c ∷ cs) = refl
 
 -- the cells of a run that keeps the rules
-record HasCells (count : ℕ) (before : List RunRow) (n : ℕ) (r : RunRow) : Type 0 where
-  numbered : r.num ≡ pos n
-  flow : flow_fits r.flow ≡ true
-  request : request_fits before r.req ≡ true
-  least : int_le (pos 1) r.textnum ≡ true
-  most : int_le r.textnum (pos count) ≡ true
+pub record HasCells (count : ℕ) (before : List RunRow) (n : ℕ) (r : RunRow) : Type 0 where
+  pub numbered : r.num ≡ pos n
+  pub flow : flow_fits r.flow ≡ true
+  pub request : request_fits before r.req ≡ true
+  pub least : int_le (pos 1) r.textnum ≡ true
+  pub most : int_le r.textnum (pos count) ≡ true
 
-has_cells : (count : ℕ) (before : List RunRow) (n : ℕ) (r : RunRow) → cells_fit count before n r ≡ true → HasCells count before n r
+pub has_cells : (count : ℕ) (before : List RunRow) (n : ℕ) (r : RunRow) → cells_fit count before n r ≡ true → HasCells count before n r
 has_cells count before n r h =
     let four = both_left (int_eq r.num (pos n) && flow_fits r.flow && request_fits before r.req && int_le (pos 1) r.textnum) (int_le r.textnum (pos count)) h in
     let three = both_left (int_eq r.num (pos n) && flow_fits r.flow && request_fits before r.req) (int_le (pos 1) r.textnum) four in
@@ -95,7 +95,7 @@ request_kept : (before : List RunRow) (q : Bytes) → request_fits before q ≡ 
 request_kept before [] h = tt
 request_kept before (c ∷ cs) h = (omega arith, leb-true (length (c ∷ cs)) 64 (both_left (nat_le (length (c ∷ cs)) 64) (request_is_new before (c ∷ cs)) h))
 
-no_difference : (run : ℤ) (o : Option ℤ) → differs table.Outbox run o ≡ [] → o ≡ None
+pub no_difference : (run : ℤ) (o : Option ℤ) → differs table.Outbox run o ≡ [] → o ≡ None
 no_difference run None h = refl
 no_difference run (Some id) h = absurd (let same = h in cc)
 

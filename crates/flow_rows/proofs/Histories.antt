@@ -64,6 +64,14 @@ kind_with i kind (Some at) body e says = let it : IsRead i kind at body e = foun
 pub kind_read : (i : ℕ) (r : EventRow) (e : Event) → spelled_at i r ≡ Ok e → r.kind ≡ pos (kind_number (kind_of e.what))
 kind_read i r e says = kind_with i r.kind r.at r.body e says
 
+-- and its number is that of its place
+number_with : (i : ℕ) (kind : ℤ) (a : Option ℤ) (body : Bytes) (e : Event) → spelled_with i kind a body ≡ Ok e → e.id ≡ i
+number_with i kind None body e says = (row_found Inside i kind body e says).numbered
+number_with i kind (Some at) body e says = let it : IsRead i kind at body e = found (Ok e) i kind at body says in it.numbered
+
+pub read_number : (i : ℕ) (r : EventRow) (e : Event) → spelled_at i r ≡ Ok e → e.id ≡ i
+read_number i r e says = number_with i r.kind r.at r.body e says
+
 ---- In a format
 
 -- of rows in a format those of a run are

@@ -18,9 +18,12 @@ pub mod EventReads
 pub mod HeadReads
 pub mod Singles
 pub mod Recalls
-pub mod NextRuns
 pub mod Recalled
 pub mod Laws
+pub mod Parting
+pub mod ReadableRuns
+pub mod Inspected
+pub mod PassedBlocks
 pub mod Stood
 pub mod WholeBooks
 pub mod Behind

@@ -10,5 +10,8 @@ pub mod Typed
 pub mod Told
 pub mod Recalling
 pub mod Whole
+pub mod Parts
+pub mod Inspecting
+pub mod Passing
 pub mod Dues
 pub mod Heading

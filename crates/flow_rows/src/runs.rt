@@ -1,16 +1,16 @@
-ghost use Rattle.std.specs.Prelude.{◌≡◌, ◌<◌, ◌^◌, [], List, IfOk, None, pos};
+ghost use Rattle.std.specs.Prelude.{◌≡◌, ◌<◌, ◌^◌, List, None, pos};
 ghost use Rattle.std.specs.List.{list_any};
 ghost use Rattle.flow_rows.specs.declared.rows.RunRow.{RunRow as ARow};
 ghost use Rattle.flow_rows.specs.Rows.{events_of};
 ghost use Rattle.flow_rows.specs.Damages as rule;
-ghost use Rattle.flow_rows.specs.Damages.{first_of, damages_of_runs};
+ghost use Rattle.flow_rows.specs.Damages.{first_of};
 ghost use Rattle.flow_rows.specs.Taken.{HasTaken};
+ghost use Rattle.flow_rows.specs.Parts.{part_fits, run_damaged};
+ghost use Rattle.flow_rows.specs.Inspecting.{part_in};
 
-use crate::rows::{EventRow, RunRow};
-use crate::run_rows::{is_rising, part};
+use crate::rows::{EventRow, RunRow, RunRows};
 use crate::taken_names::NamesInUse;
 use flow_base::fault::{Damage, Table};
-use std::alloc::{AllocError, Global};
 
 /// Whether an event is of a kind that closes its run.
 fn closes(event: &EventRow) -> bool
@@ -60,32 +60,29 @@ fn flow_is_free(taken: &NamesInUse, row: &RunRow) -> bool
 }
 
 /// Whether run `n` is numbered and named, and its text is among so many.
-fn cells_fit(texts: usize, taken: &NamesInUse, n: usize, row: &RunRow) -> bool
-    requires texts { texts < 2 ^ 62 }
-    requires runs { n < 2 ^ 62 }
+fn cells_fit(texts: usize, taken: &NamesInUse, n: u64, row: &RunRow) -> bool
+    requires { n < 2 ^ 63 }
     ensures { (before : List ARow) → HasTaken taken.now before → result ≡ rule.cells_fit texts before n row.now }
 {
     row.num == n as i64
         && flow_fits(row.flow.as_str())
         && request_fits(taken, row.req.as_str())
-        && 1 <= row.textnum
-        && row.textnum <= texts as i64
+        && (1 <= row.textnum && row.textnum as u64 <= texts as u64)
 }
 
-/// Whether run `n` keeps the rules, where there are so many texts and the runs before it have taken this.
-fn run_fits(texts: usize, events: &[EventRow], taken: &NamesInUse, n: usize, row: &RunRow) -> bool
-    requires texts { texts < 2 ^ 62 }
-    requires runs { n < 2 ^ 62 }
-    ensures { (before : List ARow) → HasTaken taken.now before → result ≡ rule.run_fits texts events.now before n row.now }
+/// Whether run `n` keeps the rules, if there are so many texts and the runs before it have taken this.
+fn run_fits(texts: usize, taken: &NamesInUse, n: u64, rows: &RunRows<'_, '_>) -> bool
+    requires { n < 2 ^ 63 }
+    ensures { (before : List ARow) → HasTaken taken.now before → result ≡ part_fits texts before n (part_in n rows.now) }
 {
-    cells_fit(texts, taken, n, row)
-        && mark_fits(events, n as i64, row.isopen)
-        && flow_is_free(taken, row)
+    cells_fit(texts, taken, n, rows.row)
+        && mark_fits(rows.events, n as i64, rows.row.isopen)
+        && flow_is_free(taken, rows.row)
 }
 
 /// Run `n` breaks a rule.
-fn broken(n: usize) -> Damage
-    requires { n < 2 ^ 62 }
+fn broken(n: u64) -> Damage
+    requires { n < 2 ^ 63 }
     ensures { result ≡ record { table = Table.Run; run = pos n; place = pos 0; cause = None } }
 {
     Damage {
@@ -96,25 +93,24 @@ fn broken(n: usize) -> Damage
     }
 }
 
-/// The first damage of the runs.
-pub fn run_damage(
-    alloc: Global,
-    texts: usize,
-    events: &[EventRow],
-    rows: &[RunRow],
-) -> Result<Option<Damage>, AllocError>
-    requires { texts < 2 ^ 62 }
-    ensures { IfOk result (λ o. o ≡ first_of (damages_of_runs texts events.now [] 1 rows.now)) }
+/// The damage of run `n`, unless it fits.
+fn damage_unless(fits: bool, n: u64) -> Option<Damage>
+    requires { n < 2 ^ 63 }
+    ensures { result ≡ first_of (rule.unless fits Table.Run (pos n) (pos 0)) }
 {
-    let rising = is_rising(events);
-    let mut taken = NamesInUse::none(alloc);
-    for i in 0..rows.len() {
-        let row = &rows[i];
-        let own = part(events, rising, i as u64 + 1);
-        if !run_fits(texts, own, &taken, i + 1, row) {
-            return Ok(Some(broken(i + 1)));
-        }
-        taken.add(row)?;
-    }
-    Ok(None)
+    if fits { None } else { Some(broken(n)) }
+}
+
+/// The damage of run `n`, if it breaks a rule.
+pub fn run_damage(
+    texts: usize,
+    taken: &NamesInUse,
+    n: u64,
+    rows: &RunRows<'_, '_>,
+) -> Option<Damage>
+    requires { n < 2 ^ 63 }
+    ensures { (before : List ARow) → HasTaken taken.now before → result ≡ first_of (run_damaged texts before n (part_in n rows.now)) }
+{
+    let fits = run_fits(texts, taken, n, rows);
+    damage_unless(fits, n)
 }

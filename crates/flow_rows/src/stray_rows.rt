@@ -77,8 +77,8 @@ pub fn stray_below<R: OfRun>(table: Table, rows: &[R]) -> Option<Damage>
 }
 
 /// The first row of a table that stands behind the last of so many runs.
-pub fn stray_behind<R: OfRun>(table: Table, runs: usize, rows: &[R]) -> Option<Damage>
-    requires { runs < 2 ^ 62 }
+pub fn stray_behind<R: OfRun>(table: Table, runs: u64, rows: &[R]) -> Option<Damage>
+    requires { runs < 2 ^ 63 }
     ensures { result ≡ first_of (strays table (is_behind runs) (map R.place rows.now)) }
 {
     let last = runs as i64;

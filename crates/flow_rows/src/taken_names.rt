@@ -11,16 +11,17 @@ use crate::rows::RunRow;
 use indexmap::IndexSet;
 use std::alloc::{AllocError, Global};
 
-/// The requests of the runs so far, and the flows of those among them that are marked as open.
+/// The requests of the runs so far, and the flows of those among them that are marked as open. The names are copies, so that the rows
+/// that had them may go.
 #[derive(Drop)]
-pub struct NamesInUse<'a> {
-    requests: IndexSet<&'a str>,
-    flows: IndexSet<&'a str>,
+pub struct NamesInUse {
+    requests: IndexSet<String>,
+    flows: IndexSet<String>,
 }
 
-impl<'a> NamesInUse<'a> {
+impl NamesInUse {
     /// No run has taken anything.
-    pub fn none(alloc: Global) -> NamesInUse<'a>
+    pub fn none(alloc: Global) -> NamesInUse
         ensures { HasTaken result [] }
     {
         NamesInUse {
@@ -29,30 +30,32 @@ impl<'a> NamesInUse<'a> {
         }
     }
 
-    fn add_request(&mut self, request: &'a str) -> Result<(), AllocError>
+    fn add_request(&mut self, alloc: Global, request: &str) -> Result<(), AllocError>
         ensures requests { OnOk result ((x : Bytes)
             → has_taken_request self.new x ≡ (has_taken_request self.old x || bytes_eq request.now x)) }
         ensures flows { OnOk result (self.new.flows ≡ self.old.flows) }
     {
-        self.requests.insert(request)?;
+        let name = String::from_str(alloc, request)?;
+        self.requests.insert(name)?;
         Ok(())
     }
 
-    fn add_flow(&mut self, flow: &'a str) -> Result<(), AllocError>
+    fn add_flow(&mut self, alloc: Global, flow: &str) -> Result<(), AllocError>
         ensures requests { OnOk result (self.new.requests ≡ self.old.requests) }
         ensures flows { OnOk result ((x : Bytes) → has_taken_flow self.new x ≡ (has_taken_flow self.old x || bytes_eq flow.now x)) }
     {
-        self.flows.insert(flow)?;
+        let name = String::from_str(alloc, flow)?;
+        self.flows.insert(name)?;
         Ok(())
     }
 
     /// One more run.
-    pub fn add(&mut self, run: &'a RunRow) -> Result<(), AllocError>
+    pub fn add(&mut self, alloc: Global, run: &RunRow) -> Result<(), AllocError>
         ensures { OnOk result (Takes self.old run.now self.new) }
     {
-        self.add_request(run.req.as_str())?;
+        self.add_request(alloc, run.req.as_str())?;
         if run.isopen == 1 {
-            self.add_flow(run.flow.as_str())?;
+            self.add_flow(alloc, run.flow.as_str())?;
         }
         Ok(())
     }

@@ -1,16 +1,17 @@
 -- What is posted, from board to board.
-use Rattle.std.proofs.Common.{◌≡◌, ℕ, List, [], ◌∷◌, ◌++◌, length, refl, sym, ◌∙◌, subst}
+use Rattle.std.proofs.Common.{◌≡◌, ◌||◌, ℕ, Bool, true, false, List, [], ◌∷◌, ◌++◌, length, refl, sym, ◌∙◌, subst, true≢false}
 use mathlib.Core.List.{IsPrefix}
 use Rattle.std.specs.BTreeSet.{BTreeSet}
 use Rattle.sqlite_trees.specs.declared.store.Store.{Ghosts}
-use Rattle.flow_base.specs.Keys.{Key}
+use Rattle.flow_base.specs.Keys.{Key, key_of}
 use Rattle.flow_base.specs.declared.submission.Receipt.{Receipt}
 use Rattle.flow_base.specs.declared.task.Task.{Task}
 use Rattle.flow_model.specs.Apply.{after}
 use Rattle.flow_model.specs.Book.{Book}
-use Rattle.flow_commit.specs.Boards.{Boarded, IsBoardOf}
+use Rattle.flow_commit.specs.Boards.{AreAmong, Boarded, IsBoardOf, is_posted}
 use Rattle.flow_commit.specs.Keeping.{Keeping, IsFit, logged, rules}
-use Rattle.flow_queues.specs.Posting.{HasKeys, IsOnce, new_ones}
+use Rattle.flow_commit.proofs.Posting.{set_has}
+use Rattle.flow_queues.specs.Posting.{HasKeys, IsOnce, has_key, is_key, new_ones}
 use Rattle.flow_queues.proofs.Once.{still_once}
 use Rattle.flow_hub.proofs.Growing.{prefix_self, prefix_trans}
 use Rattle.flow_engine.specs.Driving.{receipts_in}
@@ -18,7 +19,7 @@ use Rattle.flow_queues.specs.declared.refused.Refused.{Refused}
 use Rattle.flow_base.specs.declared.submission.Taken.{Taken}
 use Rattle.flow_engine.specs.Boarding.{IsStill}
 use Rattle.flow_serve.specs.Serving.{HasAnswered}
-use Rattle.flow_serve.specs.Posting.{ArePosted, Posts, WasBoard}
+use Rattle.flow_serve.specs.Posting.{ArePosted, IsKnown, Posts, WasBoard}
 
 module _ {S : Type 0} where
   -- what stands of an engine later: it has kept as much and more, over the same book, and was fit if it is
@@ -102,3 +103,31 @@ module _ {S : Type 0} where
     found = found;
     fit = answered.fit;
   }
+
+---- What the next board may rest on
+
+has_on : (ts us : List Task) (q : Key) → has_key ts q ≡ true → has_key (ts ++ us) q ≡ true
+has_on [] us q has = absurd (true≢false (sym has))
+has_on (t ∷ ts) us q has = by (is_key (key_of t) q) (has_on ts us q) has
+  where
+    by : (v : Bool) → (has_key ts q ≡ true → has_key (ts ++ us) q ≡ true) → (v || has_key ts q) ≡ true → (v || has_key (ts ++ us) q) ≡ true
+    by true on h = refl
+    by false on h = on h
+
+module _ {S : Type 0} where
+  -- a set of the keys of what is posted has those that were known
+  pub known_asked : (k : Keeping S) (posted : List Task) (keys : BTreeSet Key) → HasKeys keys posted → IsKnown k posted → k.halted ≡ false → AreAmong k.posted keys.keys
+  known_asked k posted keys has known goes q is = sym (set_has q keys.keys) ∙ (has q ∙ known goes q is)
+
+  -- and a board that was made with it knows no more
+  pub known_behind : (old new : Keeping S) (posted : List Task) (keys : BTreeSet Key) → HasKeys keys posted → new.halted ≡ old.halted → (old.halted ≡ false → AreAmong new.posted keys.keys) → IsKnown new posted
+  known_behind old new posted keys has same owes goes q is = sym (has q) ∙ (set_has q keys.keys ∙ owes (sym same ∙ goes) q is)
+
+  -- more is posted
+  pub known_more : (k : Keeping S) (was more posted : List Task) → posted ≡ was ++ more → IsKnown k was → IsKnown k posted
+  known_more k was more posted is known goes q has = subst (λ (ts : List Task). has_key ts q ≡ true) (sym is) (has_on was more q (known goes q has))
+
+  -- or nothing
+  pub known_still : (old new : Keeping S) (was posted : List Task) → new.posted ≡ old.posted → posted ≡ was → (new.halted ≡ false → old.halted ≡ false) → IsKnown old was → IsKnown new posted
+  known_still old new was posted same is back known goes q has =
+      subst (λ (ts : List Task). has_key ts q ≡ true) (sym is) (known (back goes) q (subst (λ (ks : List Key). is_posted ks q ≡ true) same has))

@@ -14,8 +14,11 @@ use Rattle.flow_commit.specs.Committing.{HasGoneOn, IsDown}
 use Rattle.flow_commit.specs.Keeping.{Keeping, IsFit}
 use Rattle.flow_commit.proofs.Following.{up_before}
 use Rattle.flow_commit.proofs.Sealing.{shut_on}
-use Rattle.flow_engine.specs.Counting.{IsHeldBack, IsMoreBy}
-use Rattle.flow_engine.proofs.Counting.{failed_or_held, held_since, held_still, more_none, more_one, more_still}
+use Rattle.flow_model.specs.Answers.{IsMoreBy}
+use Rattle.flow_model.proofs.Failures.{more_none, more_still}
+use Rattle.flow_engine.specs.Counting.{IsHeldBack}
+use Rattle.flow_engine.specs.Following.{failed_or_held, held_since, held_still}
+use Rattle.flow_engine.proofs.Counting.{more_one}
 use Rattle.flow_engine.specs.Boarding.{IsStill}
 use Rattle.flow_serve.specs.Posting.{AreRefusedBut, AreSkipped, ArePosted, HasNoBoard, HasTurn, HasTurns, IsRefusedTwice, PostsOne, SkipsFor}
 use Rattle.flow_serve.proofs.Posted.{IsLater, are_joined, are_later, still_later}

@@ -1,18 +1,20 @@
 -- What an engine that serves a hub posts: what boards of the kept book name, at moments that the clock told.
-use Rattle.std.specs.Prelude.{◌≡◌, ◌⊎◌, ◌+◌, ℕ, suc, List, [], ◌∷◌, ◌++◌, length, All}
+use Rattle.std.specs.Prelude.{◌≡◌, ◌⊎◌, ◌+◌, ℕ, suc, true, false, List, [], ◌∷◌, ◌++◌, length, All}
 use mathlib.Core.List.{IsPrefix}
 use Rattle.sqlite_trees.specs.declared.store.Store.{Ghosts}
+use Rattle.flow_base.specs.Keys.{Key}
 use Rattle.flow_base.specs.declared.fault.Fault.{Fault}
 use Rattle.flow_base.specs.declared.fault.Fault.TheVariants as fault
 use Rattle.flow_base.specs.declared.submission.Receipt.{Receipt}
 use Rattle.flow_base.specs.declared.task.Task.{Task}
+use Rattle.flow_model.specs.Answers.{IsMoreBy}
 use Rattle.flow_model.specs.Apply.{after}
 use Rattle.flow_tables.specs.Owned.{state_of}
-use Rattle.flow_commit.specs.Boards.{Boarded, IsBoardOf, IsOfBoard}
+use Rattle.flow_commit.specs.Boards.{Boarded, IsBoardOf, IsOfBoard, is_posted}
 use Rattle.flow_commit.specs.Committing.{IsDown}
 use Rattle.flow_commit.specs.Keeping.{Keeping, IsFit, logged, rules}
-use Rattle.flow_engine.specs.Counting.{IsHeldBack, IsMoreBy}
-use Rattle.flow_queues.specs.Posting.{HasKeys, new_ones}
+use Rattle.flow_engine.specs.Counting.{IsHeldBack}
+use Rattle.flow_queues.specs.Posting.{HasKeys, has_key, new_ones}
 
 -- A board was posted where these tasks had been: it was made of the book that the first so many commands left which were kept since the
 -- store was opened, at a moment that the clock told, and leaves out the tasks that had been posted by then and no others.
@@ -34,6 +36,10 @@ ArePosted g tells now was posted (x ∷ xs) = WasBoard g tells now was x × AreP
 pub record Posts {S : Type 0} (g : Ghosts S) (tells : ℕ → Type 0) (now : Keeping S) (was posted : List Task) : Type 0 where
   pub boards : List Boarded
   pub are : ArePosted g tells now was posted boards
+
+-- As long as the engine goes on, all that had been posted when its last board was made is posted still.
+abbrev pub IsKnown : {S : Type 0} → Keeping S → List Task → Type 0
+IsKnown k posted = k.halted ≡ false → (q : Key) → is_posted k.posted q ≡ true → has_key posted q ≡ true
 
 ---- Boards that were skipped
 

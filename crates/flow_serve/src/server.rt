@@ -3,18 +3,23 @@ ghost use Rattle.std.specs.Prelude.{◌≡◌, ◌≤◌, true, false, [], List,
 ghost use Rattle.std.specs.Vec.{vec_capacity};
 ghost use Rattle.flow_base.specs.declared.fault.Fault.{Fault as AFault};
 ghost use Rattle.flow_base.specs.declared.submission.Taken.{Taken as ATaken};
+ghost use Rattle.flow_commit.specs.Boards.{AreAmong};
+ghost use Rattle.flow_commit.specs.Calls.{BoardSays};
 ghost use Rattle.flow_commit.specs.Keeping.{account_of};
 ghost use Rattle.flow_hub.specs.Knowing.{IsBefore};
 ghost use Rattle.flow_engine.specs.Boarding.{IsStill};
-ghost use Rattle.flow_serve.specs.Posting.{HasNoBoard, HasTurn, Posts, PostsOne, SkipsFor};
+ghost use Rattle.flow_serve.specs.Posting.{HasNoBoard, HasTurn, IsKnown, Posts, PostsOne, SkipsFor};
 ghost use Rattle.flow_hub.specs.Publishing.{InHand, IsDone, TakesAll, Together};
 ghost use Rattle.flow_engine.specs.Answering.{Follows};
 ghost use Rattle.flow_serve.specs.Serving.{EndsFor, GivesUp, HasAnswered, HasServed, ServesBoarded, StopsAt, StopsFor, TurnsAway};
 
 use flow_base::code::Code;
 use flow_base::fault::Fault;
+use flow_base::number::Moment;
 use flow_base::submission::Taken;
+use flow_base::task::Posted;
 use flow_commit::batch::Batch;
+use flow_commit::board::Board;
 use flow_commit::outcome::Outcome;
 use flow_engine::engine::Engine;
 use flow_hub::publisher::Publisher;
@@ -23,6 +28,7 @@ use flow_timers::Clock;
 use flow_timers::pause::Pause;
 use sqlite::Alter;
 use std::alloc::Global;
+use std::collections::BTreeSet;
 use std::sync::Wait;
 use std::time;
 
@@ -60,6 +66,7 @@ fn commit_taken<S: Alter, B: Room, R: Wait>(
     ensures takes { publisher.new.takes ≡ publisher.old.takes }
     ensures ended { publisher.new.ended ≡ publisher.old.ended }
     ensures found { engine.new.found ≡ engine.old.found }
+    ensures still { engine.new.posted ≡ engine.old.posted }
     ensures follows { Follows S.Store engine.old engine.new }
     ensures grows { IsBefore publisher.old publisher.new }
 {
@@ -83,15 +90,35 @@ fn commit_taken<S: Alter, B: Room, R: Wait>(
     }
 }
 
+/// A board: behind another one of this publisher's it looks at what is new since then alone.
+fn ask_board<S: Alter>(
+    engine: &mut Engine<S>,
+    posted: &BTreeSet<Posted>,
+    at: Moment,
+    again: bool,
+) -> Result<Board, Fault>
+    requires still { again ≡ true → engine.old.halted ≡ false → AreAmong engine.old.posted posted.now.keys }
+    ensures { BoardSays S.Store posted.now.keys at engine.old engine.new result }
+{
+    if again {
+        engine.next_board(posted, at)
+    } else {
+        engine.board(posted, at)
+    }
+}
+
 /// Makes a board and posts it, or says why there is none.
 fn try_board<S: Alter, B: Room, R: Wait, C: Clock>(
     rt: &R,
     engine: &mut Engine<S>,
     publisher: &mut Publisher<B>,
     clock: &C,
+    again: bool,
 ) -> Result<(), Fault>
     requires together { Together (account_of S.Store engine.old) publisher.old }
+    requires known { again ≡ true → IsKnown engine.old publisher.old.posted }
     ensures together { Together (account_of S.Store engine.new) publisher.new }
+    ensures known { IsKnown engine.new publisher.new.posted }
     ensures boarded { OnOk result (publisher.new.boarded ≡ true) }
     ensures tried { MatchResult result
         (λ _. PostsOne S.Store (C.tells clock.now) engine.new publisher.old.posted publisher.new.posted)
@@ -104,7 +131,7 @@ fn try_board<S: Alter, B: Room, R: Wait, C: Clock>(
     ensures ended { publisher.new.ended ≡ publisher.old.ended }
     ensures grows { IsBefore publisher.old publisher.new }
 {
-    match engine.board(publisher.posted(), clock.now()) {
+    match ask_board(engine, publisher.posted(), clock.now(), again) {
         Ok(board) => match publisher.post(rt, board) {
             Ok(()) => Ok(()),
             Err((_board, refused)) => Err(Fault::from(refused)),
@@ -113,15 +140,19 @@ fn try_board<S: Alter, B: Room, R: Wait, C: Clock>(
     }
 }
 
-/// Posts a board behind what is kept. One that can't be made or posted is tried once more, and then there is none this time.
+/// Posts a board behind what is kept, which looks at what is new since another one if there was one. One that can't be made or posted
+/// is tried once more, and then there is none this time.
 fn post_board<S: Alter, B: Room, R: Wait, C: Clock>(
     rt: &R,
     engine: &mut Engine<S>,
     publisher: &mut Publisher<B>,
     clock: &C,
+    again: bool,
 )
     requires together { Together (account_of S.Store engine.old) publisher.old }
+    requires known { again ≡ true → IsKnown engine.old publisher.old.posted }
     ensures together { Together (account_of S.Store engine.new) publisher.new }
+    ensures known { IsKnown engine.new publisher.new.posted }
     ensures boarded { publisher.new.boarded ≡ true }
     // One was made and posted, or it was skipped for two faults that are told of this engine, one of each time that it was refused.
     ensures turn { HasTurn S.Store (C.tells clock.now) engine.old engine.new publisher.old.posted publisher.new.posted
@@ -133,10 +164,10 @@ fn post_board<S: Alter, B: Room, R: Wait, C: Clock>(
     ensures ended { publisher.new.ended ≡ publisher.old.ended }
     ensures grows { IsBefore publisher.old publisher.new }
 {
-    let Err(first) = try_board(rt, engine, publisher, clock) else {
+    let Err(first) = try_board(rt, engine, publisher, clock, again) else {
         return;
     };
-    let Err(last) = try_board(rt, engine, publisher, clock) else {
+    let Err(last) = try_board(rt, engine, publisher, clock, true) else {
         return;
     };
     publisher.skip(rt, &first);
@@ -177,13 +208,13 @@ fn serve_all<S: Alter, B: Room, R: Wait + time::Clock, C: Clock>(
     ensures grows { IsBefore publisher.old publisher.new }
 {
     let mut taken = first;
-    post_board(rt, engine, publisher, clock);
+    post_board(rt, engine, publisher, clock, false);
     for _ in rt.forever() {
         if !publisher.take(rt, &mut taken, most) {
             return Ok(());
         }
         commit_taken(rt, engine, publisher, Batch::of(taken))?;
-        post_board(rt, engine, publisher, clock);
+        post_board(rt, engine, publisher, clock, true);
         taken = list_with_room(rt, engine.alloc(), most);
     }
     unreachable!()

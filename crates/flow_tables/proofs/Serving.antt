@@ -8,13 +8,15 @@ use Rattle.flow_maps.specs.Agenda.{IsOf, Knows, tasks_at, tasks_of}
 use Rattle.flow_maps.specs.Keys.{Lists}
 use Rattle.flow_maps.specs.Timers.{of_run, timers_of}
 use Rattle.flow_maps.specs.Serving.{Serves, Sees, AreKeys, Awaits, HasSignals, HasRecords, named, key_if, request_key, open_key}
+use Rattle.flow_maps.specs.Undoing.{GoesBack, LeadsBack, Returns}
+use Rattle.flow_maps.proofs.Undone.{returns_by, returns_same}
 use Rattle.flow_rows.specs.Rows.{run_rows, request_text, run_row}
 use Rattle.flow_rows.specs.Told.{IsTold}
 use Rattle.flow_view.specs.Reading.{Reads}
 use Rattle.flow_rows.proofs.Telling.{told as told_back}
 use Rattle.flow_rows.proofs.WholeChanges.{mark_read}
 use Rattle.flow_tables.specs.Owned.{Keeps, IsServing, row_request, row_open}
-use Rattle.flow_tables.proofs.Owning.{read_leaves, told_at, still_so}
+use Rattle.flow_tables.proofs.Owning.{LeavesCommit, read_leaves, read_own, told_at, still_so}
 
 ---- The keys that rows tell
 
@@ -59,65 +61,108 @@ runs_on xs i x is more = ap (λ y. take i xs ++ y ∷ []) is ∙ sym (take_more 
 ---- The calls
 
 -- nothing is known
-pub any_serving : (m : Maps) (k : Bool) (s : State) (r : Option Refusal) → ((b : Book) → Serves m b) → ((b : Book) → Sees m b) → IsServing m k s r
-any_serving m k s r serves sees = record { last = λ is up. serves (book_of s.committed); shown = λ none inside. (serves (book_of s.now), sees (book_of s.now)) }
+pub any_serving : (m : Maps) (s : State) (r : Option Refusal) → ((b : Book) → Serves m b) → ((b : Book) → Sees m b) → ((b c : Book) → GoesBack m b c) → IsServing m s r
+any_serving m s r serves sees back = record {
+  last = λ up. returns_by m (book_of s.committed) (book_of s.committed) (back (book_of s.committed) (book_of s.committed)) (serves (book_of s.committed));
+  shown = λ none inside. (serves (book_of s.now), sees (book_of s.now), back (book_of s.committed) (book_of s.now));
+}
 
 -- the book was read whole
-pub opened_serving : (m : Maps) (k : Bool) (s : State) (r : Option Refusal) (b : Book) → s.in_transaction ≡ false → Keeps s b → Serves m b → IsServing m k s r
-opened_serving m k s r b rest kept serves = record {
-  last = λ is up. subst (λ x. Serves m x) (sym (told_back (tables_in s.committed) b (kept.kept up).1)) serves;
+pub opened_serving : (m : Maps) (s : State) (r : Option Refusal) (b : Book) → s.in_transaction ≡ false → Keeps s b → Serves m b → ((c : Book) → GoesBack m c c) → IsServing m s r
+opened_serving m s r b rest kept serves back = record {
+  last = λ up. let was = subst (λ x. Serves m x) (sym (told_back (tables_in s.committed) b (kept.kept up).1)) serves in returns_by m (book_of s.committed) (book_of s.committed) (back (book_of s.committed)) was;
   shown = λ none inside. absurd (true≢false (sym inside ∙ rest));
 }
 
 -- the keys were read
-pub learnt_serving : (m : Maps) (s : State) (r : Option Refusal) → (r ≡ None → s.in_transaction ≡ true → Serves m (book_of s.now)) → ((b : Book) → Sees m b) → IsServing m false s r
-learnt_serving m s r serves sees = record { last = λ is up. absurd (true≢false (sym is)); shown = λ none inside. (serves none inside, sees (book_of s.now)) }
+pub learnt_serving : (m : Maps) (s : State) (r : Option Refusal) → ((b : Book) → Returns m b) → ((b c : Book) → GoesBack m b c) → (r ≡ None → s.in_transaction ≡ true → Serves m (book_of s.now)) → ((b : Book) → Sees m b) → IsServing m s r
+learnt_serving m s r returns back serves sees = record {
+  last = λ up. returns (book_of s.committed);
+  shown = λ none inside. (serves none inside, sees (book_of s.now), back (book_of s.committed) (book_of s.now));
+}
+
+-- what was read is known, and nothing else
+pub seen_serving : (m m' : Maps) (s : State) (r : Option Refusal) → m'.journal ≡ m.journal → ((b : Book) → Serves m b → Serves m' b) → (r ≡ None → s.in_transaction ≡ true → Serves m (book_of s.now) → Sees m (book_of s.now) → Sees m' (book_of s.now)) → IsServing m s r → IsServing m' s r
+seen_serving m m' s r same serves sees was = record {
+  last = λ up. returns_same m m' (book_of s.committed) same serves (was.last up);
+  shown = λ none inside. let h = was.shown none inside in (serves (book_of s.now) h.0, sees none inside h.0 h.1, subst (λ j. LeadsBack j (book_of s.committed) (book_of s.now)) (sym same) h.2);
+}
 
 module _ (old new : State) where
   -- a transaction begins
-  pub begun_serving : (r : Option Refusal) (m m' : Maps) (k : Bool) → IsOwn old r → HasBegun old new → ((b : Book) → (k ≡ true → Serves m b) → Serves m' b) → ((b : Book) → Sees m' b) → IsServing m k old r → IsServing m' true new None
-  begun_serving r m m' k own h serves sees was =
-      let kept = serves (book_of old.committed) (λ is. was.last is h.1.was_open) in
+  pub begun_serving : (r : Option Refusal) (m m' : Maps) → IsOwn old r → HasBegun old new → ((b : Book) → Returns m b → Serves m' b) → ((b : Book) → Sees m' b) → ((b : Book) → GoesBack m' b b) → IsServing m old r → IsServing m' new None
+  begun_serving r m m' own h serves sees back was =
+      let before = book_of old.committed in
+      let kept = serves before (was.last h.1.was_open) in
       record {
-        last = λ is up. subst (λ (d : Database). Serves m' (book_of d)) (sym h.1.committed_is) kept;
-        shown = λ none inside. (subst (λ (d : Database). Serves m' (book_of d)) (sym (h.1.now_is ∙ own.rest h.0 h.1.was_open)) kept, sees (book_of new.now));
+        last = λ up. subst (λ (d : Database). Returns m' (book_of d)) (sym h.1.committed_is) (returns_by m' before before (back before) kept);
+        shown = λ none inside. (
+          subst (λ (d : Database). Serves m' (book_of d)) (sym (h.1.now_is ∙ own.rest h.0 h.1.was_open)) kept,
+          sees (book_of new.now),
+          subst (λ (d : Database). GoesBack m' (book_of d) (book_of new.now)) (sym h.1.committed_is) (subst (λ (d : Database). GoesBack m' before (book_of d)) (sym (h.1.now_is ∙ own.rest h.0 h.1.was_open)) (back before)),
+        );
       }
 
   -- it is committed
-  pub committed_serving : (r s : Option Refusal) (m : Maps) (k : Bool) → old.in_transaction ≡ true → r ≡ None → HasCommitted old new → IsServing m k old r → IsServing m true new s
-  committed_serving r s m k inside none h was = record {
-    last = λ is up. subst (λ (d : Database). Serves m (book_of d)) (sym h.1.committed_is) (was.shown none inside).0;
+  pub committed_serving : (r s : Option Refusal) (m m' : Maps) → old.in_transaction ≡ true → r ≡ None → HasCommitted old new → ((b : Book) → Serves m b → Serves m' b) → ((b : Book) → GoesBack m' b b) → IsServing m old r → IsServing m' new s
+  committed_serving r s m m' inside none h serves back was = record {
+    last = λ up. let kept = book_of old.now in subst (λ (d : Database). Returns m' (book_of d)) (sym h.1.committed_is) (returns_by m' kept kept (back kept) (serves kept (was.shown none inside).0));
     shown = λ _ mode. absurd (true≢false (sym mode ∙ h.1.mode));
   }
 
   -- it has ended otherwise
-  pub ended_serving : (r s : Option Refusal) (m : Maps) (k : Bool) → HasEnded old new → IsServing m k old r → IsServing m k new s
-  ended_serving r s m k h was = record {
-    last = λ is up. subst (λ (d : Database). Serves m (book_of d)) (sym (h.back up).1) (was.last is (h.was_open up));
+  pub ended_serving : (r s : Option Refusal) (m : Maps) → HasEnded old new → IsServing m old r → IsServing m new s
+  ended_serving r s m h was = record {
+    last = λ up. subst (λ (d : Database). Returns m (book_of d)) (sym (h.back up).1) (was.last (h.was_open up));
     shown = λ _ mode. absurd (true≢false (sym mode ∙ h.mode));
   }
+
+  -- what goes back to what was kept before goes back to it now
+  still_back : (m : Maps) (b : Book) (rn : Option Refusal) → IsOwn new rn → LeavesCommit old new → rn ≡ None → new.in_transaction ≡ true → GoesBack m (book_of old.committed) b → GoesBack m (book_of new.committed) b
+  still_back m b rn own left none mode back = subst (λ (d : Database). GoesBack m (book_of d) b) (sym (left.same (own.whole mode none).0)) back
 
   module _ (ours : Type 0) (ro rn : Option Refusal) where
     -- something was read
     pub read_serving : (owned : ours → HasCleanDisk old → IsOwn old ro) (none : ro ≡ None) (inside : old.in_transaction ≡ true) (clean : HasCleanDisk new → HasCleanDisk old) {A : Type 0} (result : Result A ViewFault) (value : Book → A)
-        (reads : HasCleanDisk new → ReadsBook old new result value) (noted : IsNoted noted_fault result ro rn) (m : Maps) (k : Bool) → (ours → HasCleanDisk old → IsServing m k old ro) → ours → HasCleanDisk new → IsServing m k new rn
-    read_serving owned none inside clean {A} result value reads noted m k serving fit now =
+        (reads : HasCleanDisk new → ReadsBook old new result value) (noted : IsNoted noted_fault result ro rn) (m : Maps) → (ours → HasCleanDisk old → IsServing m old ro) → ours → HasCleanDisk new → IsServing m new rn
+    read_serving owned none inside clean {A} result value reads noted m serving fit now =
         let was = serving fit (clean now) in
         let left = read_leaves old new ours ro rn owned none inside clean result value reads noted fit now in
+        let own = read_own old new ours ro rn owned none inside clean result value reads noted fit now in
         let told = told_at old new ours ro rn owned none inside clean result value reads fit now in
         record {
-          last = λ is up. subst (λ (d : Database). Serves m (book_of d)) (sym (left.same up)) (was.last is (left.was_open up));
-          shown = λ same _. still_so old new ours ro rn owned none inside clean result (value (book_of old.now)) (λ d. Serves m (book_of d) × Sees m (book_of d)) told noted (was.shown none inside) same;
+          last = λ up. subst (λ (d : Database). Returns m (book_of d)) (sym (left.same up)) (was.last (left.was_open up));
+          shown = λ same mode.
+              let h = still_so old new ours ro rn owned none inside clean result (value (book_of old.now)) (λ d. Serves m (book_of d) × Sees m (book_of d) × GoesBack m (book_of old.committed) (book_of d)) told noted (was.shown none inside) same in
+              (h.0, h.1, still_back m (book_of new.now) rn own left same mode h.2);
         }
 
     -- the book was changed
-    pub put_serving : ro ≡ None → old.in_transaction ≡ true → (HasCleanDisk new → HasCleanDisk old) → (m m' : Maps) (c : Change) (k : Bool) → (ours → HasCleanDisk old → IsServing m k old ro)
-        → ((b : Book) → Sees m b → Serves m b → Serves m' (changed b c)) → ((b : Book) → Sees m' b) → (result : Result Unit Refusal) → IsNoted (λ x. x) result ro rn
-        → OnOk (told_answer result) (IsSure ours new rn → book_of new.now ≡ changed (book_of old.now) c) → ours → HasCleanDisk new → IsServing m' false new rn
-    put_serving none inside clean m m' c k serving serves sees (Ok u) noted told fit now = learnt_serving m' new rn (λ same mode.
-        let was = (serving fit (clean now)).shown none inside in
-        subst (λ b. Serves m' b) (sym (told (record { fit = fit; clean = now; mode = mode; none = same }))) (serves (book_of old.now) was.1 was.0)) sees
-    put_serving none inside clean m m' c k serving serves sees (Err f) noted told fit now = learnt_serving m' new rn (λ same _. absurd (let clash = sym noted ∙ same in cc)) sees
+    module _ (m m' : Maps) (c : Change) (owns : ours → HasCleanDisk new → IsOwn new rn) (leaves : ours → HasCleanDisk new → LeavesCommit old new) (serves : (b : Book) → Sees m b → Serves m b → Serves m' (changed b c)) (sees : (b : Book) → Sees m' b)
+        (back : (k b : Book) → Sees m b → Serves m b → GoesBack m k b → GoesBack m' k (changed b c)) where
+      pub put_serving : ro ≡ None → old.in_transaction ≡ true → (HasCleanDisk new → HasCleanDisk old) → (ours → HasCleanDisk old → IsServing m old ro) → (result : Result Unit Refusal) → IsNoted (λ x. x) result ro rn
+          → OnOk (told_answer result) (IsSure ours new rn → book_of new.now ≡ changed (book_of old.now) c) → ours → HasCleanDisk new → IsServing m' new rn
+      put_serving none inside clean serving result noted told fit now = record {
+        last = λ up. let left = leaves fit now in subst (λ (d : Database). Returns m' (book_of d)) (sym (left.same up)) (returns_by m' (book_of old.committed) after way there);
+        shown = λ same mode. let is = put_is result noted told same mode in (
+          subst (λ b. Serves m' b) (sym is) there,
+          sees (book_of new.now),
+          still_back m' (book_of new.now) rn (owns fit now) (leaves fit now) same mode (subst (λ b. GoesBack m' (book_of old.committed) b) (sym is) way),
+        );
+      }
+        where
+          after : Book
+          after = changed (book_of old.now) c
+
+          there : Serves m' after
+          there = let was = (serving fit (clean now)).shown none inside in serves (book_of old.now) was.1 was.0
+
+          way : GoesBack m' (book_of old.committed) after
+          way = let was = (serving fit (clean now)).shown none inside in back (book_of old.committed) (book_of old.now) was.1 was.0 was.2
+
+          put_is : (r : Result Unit Refusal) → IsNoted (λ x. x) r ro rn → OnOk (told_answer r) (IsSure ours new rn → book_of new.now ≡ changed (book_of old.now) c) → rn ≡ None → new.in_transaction ≡ true → book_of new.now ≡ after
+          put_is (Ok u) n t same mode = t (record { fit = fit; clean = now; mode = mode; none = same })
+          put_is (Err f) n t same mode = absurd (let clash = sym n ∙ same in cc)
 
 ---- An answer behind another read
 

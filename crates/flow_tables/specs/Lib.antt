@@ -14,5 +14,6 @@ pub mod Owned
 pub mod Calls
 pub mod Asking
 pub mod Asked
+pub mod Going
 pub mod Histories
 pub mod Low

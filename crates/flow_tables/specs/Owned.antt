@@ -8,6 +8,7 @@ use Rattle.flow_view.specs.declared.fault.ViewFault.TheVariants as fault
 use Rattle.flow_tables.specs.contracts.fault.Refusal as refusal_row
 use Rattle.flow_maps.specs.declared.maps.Maps.{Maps}
 use Rattle.flow_maps.specs.Serving.{Serves, Sees, named, key_if}
+use Rattle.flow_maps.specs.Undoing.{GoesBack, Returns}
 use Rattle.flow_tables.specs.Known.{IsKnown}
 use Rattle.flow_tables.specs.Puts.{mark_of}
 use Rattle.flow_rows.specs.Rows.{One}
@@ -103,11 +104,11 @@ row_request r = named r.req
 abbrev pub row_open : RunRow → Option Bytes
 row_open r = key_if (mark_of r) r.flow
 
--- What is known by keys is of the book that was kept, where nothing was put since; and of the one that the transaction shows,
--- with the run that was read last.
-pub record IsServing (m : Maps) (is_kept : Bool) (s : State) (refused : Option Refusal) : Type 0 where
-  pub last : is_kept ≡ true → IsTrue s.is_open → Serves m (book_of s.committed)
-  pub shown : refused ≡ None → s.in_transaction ≡ true → Serves m (book_of s.now) × Sees m (book_of s.now)
+-- What is known by keys is of some book from which it is known how to go back to the one that was kept; and of the one that the
+-- transaction shows, with the run that was read last.
+pub record IsServing (m : Maps) (s : State) (refused : Option Refusal) : Type 0 where
+  pub last : IsTrue s.is_open → Returns m (book_of s.committed)
+  pub shown : refused ≡ None → s.in_transaction ≡ true → Serves m (book_of s.now) × Sees m (book_of s.now) × GoesBack m (book_of s.committed) (book_of s.now)
 
 -- the store stopped what was done since the first
 abbrev pub Refuses : {S : Type 0} → Ghosts S → Stored S → Stored S → Type 0

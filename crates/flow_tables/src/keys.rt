@@ -2,6 +2,7 @@
 ghost use Rattle.std.specs.Prelude.{◌≡◌, ◌++◌, ◌∷◌};
 ghost use Rattle.flow_tables.specs.Names.{Book, map, IfSome};
 ghost use Rattle.flow_maps.specs.Serving.{Serves, Sees, AreKeys, Awaits, HasSignals, HasRecords};
+ghost use Rattle.flow_maps.specs.Undoing.{GoesBack};
 ghost use Rattle.flow_tables.specs.Names.{ℕ, List, Bytes, shown_book, []};
 ghost use Rattle.flow_base.specs.declared.book.OpenActivity.{OpenActivity as AnActivity};
 ghost use Rattle.flow_base.specs.declared.book.Timer.{Timer as ATimer};
@@ -47,6 +48,7 @@ pub(crate) fn keys_of(alloc: Global, rows: &[RunRow]) -> Maps
 pub(crate) fn add_whole(alloc: Global, maps: &mut Maps, run: &Run)
     ensures serves { (b : Book) → Serves maps.old b → Serves maps.new (record b { runs = b.runs ++ run.now ∷ [] }) }
     ensures sees { ((b : Book) → Sees maps.old b) → (b : Book) → Sees maps.new b }
+    ensures goes_back { ((b : Book) → GoesBack maps.old b b) → (b : Book) → GoesBack maps.new b b }
 {
     let events = run.history.as_slice();
     let is_open = is_open(events);
@@ -65,6 +67,7 @@ pub(crate) fn add_whole(alloc: Global, maps: &mut Maps, run: &Run)
 fn keys_of_runs(alloc: Global, runs: &[Run]) -> Maps
     ensures serves { (texts : List Bytes) → Serves result (record { texts = texts; runs = runs.now }) }
     ensures sees { (b : Book) → Sees result b }
+    ensures goes_back { (b : Book) → GoesBack result b b }
 {
     let mut maps = Maps::none(alloc);
     for run in runs {
@@ -77,6 +80,7 @@ fn keys_of_runs(alloc: Global, runs: &[Run]) -> Maps
 pub(crate) fn keys_of_book(alloc: Global, book: &WholeBook) -> Maps
     ensures serves { Serves result (shown_book book.now) }
     ensures sees { (b : Book) → Sees result b }
+    ensures goes_back { (b : Book) → GoesBack result b b }
 {
     keys_of_runs(alloc, book.runs.as_slice())
 }

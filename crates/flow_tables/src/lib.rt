@@ -1,7 +1,6 @@
 //! The book in six SQL tables.
 #![tactic(auto)]
 
-pub mod all_rows;
 pub mod ask;
 pub mod blocks;
 pub mod book_changes;
@@ -16,6 +15,7 @@ mod one_history;
 mod one_run;
 pub mod open;
 mod open_runs;
+mod pass;
 pub mod questions;
 pub mod row_changes;
 pub mod rows;

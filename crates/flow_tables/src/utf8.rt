@@ -45,7 +45,7 @@ impl HasTexts for EventRow {
     }
 }
 
-fn all_are_utf8<R: HasTexts>(rows: &[R])
+pub(crate) fn all_are_utf8<R: HasTexts>(rows: &[R])
     ensures { AllByRecursion R.utf8 rows.now }
 {
     for row in rows {

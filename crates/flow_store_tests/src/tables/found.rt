@@ -155,6 +155,40 @@ fn a_rollback_takes_signals_back(rt: HostRuntime) -> Result<(), Fail> {
     Ok(())
 }
 
+/// Of two runs that were read one takes a signal and ends, the other goes on, and a third begins: all of it is rolled back. Then the
+/// first takes its signal again.
+const RUNS_BACK: &[Step] = &[
+    Step::Begins,
+    TEXT,
+    WAITS_90,
+    Step::Puts(Put::Run("g", Some("r"), Asks::Timer(80))),
+    Step::Commits,
+    Step::Begins,
+    Step::ReadsHead(1),
+    SIGNAL,
+    Step::ReadsHead(2),
+    Step::Puts(Put::Turn(2, 5, Comes::Fires(2), Asks::Timer(95))),
+    WAITS_90,
+    Step::Due(100, 90, 3, 2),
+    Step::RollsBack,
+    Step::Begins,
+    Step::Runs(2),
+    Step::Found("f", "r", 2, 1),
+    Step::Signal("q", 0, 0),
+    Step::Due(100, 80, 2, 2),
+    Step::ReadsHead(1),
+    SIGNAL,
+    Step::Signal("q", 1, 3),
+    Step::Found("f", "r", 2, 0),
+    Step::Found("g", "r", 2, 2),
+];
+
+#[test]
+fn a_rollback_puts_runs_back(rt: HostRuntime) -> Result<(), Fail> {
+    assert!(rt; are_so(rt.alloc(), RUNS_BACK));
+    Ok(())
+}
+
 /// Two runs of two flows that wait, the second for what is due first.
 const TWO_FLOWS: &[Step] = &[
     Step::Begins,

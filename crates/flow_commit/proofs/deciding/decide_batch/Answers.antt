@@ -8,7 +8,10 @@ use Rattle.flow_machine.proofs.Causes.{caused_by}
 use Rattle.flow_machine.proofs.OneMoreCommand.{led_on, stuck_on, told_on, unfit_on}
 use Rattle.flow_rows.proofs.Recalls.{one_longer}
 use Rattle.flow_machine.proofs.Sticking.{other_sides, stuck_here, unfit_here}
+use Rattle.flow_commit.specs.Boards.{since_changes}
 use Rattle.flow_commit.specs.Keeping.{rules as the_rules, commands_of}
+use Rattle.flow_commit.proofs.Looking.{were_decided}
+use Rattle.flow_machine.proofs.Seating.{alike_on}
 use Rattle.flow_commit.proofs.deciding.decide_batch.Goals as goal
 
 pub returns-in_err-reply-clause-cause : goal.returns-in_err-reply-clause-cause
@@ -34,8 +37,8 @@ returns-in_err-reply-clause-cause g c = λ a follows now first fits.
     rw (p.1, p.2) (caused_by c.in_err-reply.field-0.0 (Refuses ⊎ (Stuck ⊎ Unfit)) (Refuses ⊎ (StuckWithin ⊎ UnfitWithin)) (other_sides Refuses Stuck StuckWithin Unfit UnfitWithin stuck unfit)
     (c.in_err-reply.ensures.cause a (c.loop-taken.invariant.follows a follows) now sure (c.loop-taken.invariant.fit sure fits)))
 
-pub returns-in_err-push-clause-no_more : goal.returns-in_err-push-clause-no_more
-returns-in_err-push-clause-no_more g c = λ e there. c.loop-taken.invariant.no_more e (c.decide.ensures.no_more e there)
+pub returns-in_err-push-clause-alike : goal.returns-in_err-push-clause-alike
+returns-in_err-push-clause-alike g c = alike_on c.loop-taken.invariant.alike c.decide.ensures.alike
 
 pub loop-taken-preserved : goal.loop-taken-preserved
 loop-taken-preserved g c =
@@ -52,7 +55,7 @@ loop-taken-preserved g c =
     let cut_ts : drop i ts ≡ taken ∷ drop (i + 1) ts = drop-cons ts i taken c.loop-taken-test.true ∙ ap (λ x. x ∷ drop (suc i) ts) (sym c.taken-item.is) ∙ ap (λ n. taken ∷ drop n ts) more in
     let cut : left ≡ taken.command ∷ rest = ap commands_of cut_ts in
     let reply = c.in_ok-reply.reply in
-    let changes = c.in_ok-reply.field-0-1.items in
+    let changes = c.in_ok-reply.changes.items in
     let before = c.loop-taken.replies.items in
     let pushed : c.push.new.self.items ≡ before ++ reply ∷ [] = search rules in
     let many : length c.push.new.self.items ≡ length before + 1 = ap length pushed ∙ one_longer before reply in
@@ -64,7 +67,11 @@ loop-taken-preserved g c =
       told = λ sure fit. told_on the_rules at new left taken.command rest cut reply changes (c.in_ok-reply.ensures.decides sure (was.fit (sure_at sure) fit)) (replies the_rules old (commands_of ts)) before c.push.new.self.items pushed (was.told (sure_at sure) fit);
       rest = λ sure fit. led_on the_rules at new left taken.command rest cut reply changes (c.in_ok-reply.ensures.decides sure (was.fit (sure_at sure) fit)) (after the_rules old (commands_of ts)) (was.rest (sure_at sure) fit);
       fit = λ sure fit. c.in_ok-reply.ensures.fit sure (was.fit (sure_at sure) fit);
-      no_more = λ e there. was.no_more e (c.decide.ensures.no_more e there);
+      since = λ sure fit posted were.
+          let decides = c.in_ok-reply.ensures.decides sure (was.fit (sure_at sure) fit) in
+          let next : c.since_changes-since.result ≡ since_changes c.loop-taken.since changes = search rules in
+          were_decided posted at new reply changes (outcome the_rules at taken.command) c.loop-taken.since c.since_changes-since.result decides next (was.since (sure_at sure) fit posted were);
+      alike = alike_on was.alike c.decide.ensures.alike;
       counted = omega (arith, many, shorter, counted);
       stuck = λ sure fit h. was.stuck (sure_at sure) fit (stuck_on the_rules at new left taken.command rest cut reply changes (c.in_ok-reply.ensures.decides sure (was.fit (sure_at sure) fit)) h);
       unfit = λ sure fit h. was.unfit (sure_at sure) fit (unfit_on the_rules at new left taken.command rest cut reply changes (c.in_ok-reply.ensures.decides sure (was.fit (sure_at sure) fit)) g.V.View.unfit h);

@@ -1,9 +1,24 @@
-use Rattle.std.proofs.Common.{◌≡◌, inl, inr, ap, ◌∙◌}
-use Rattle.flow_commit.specs.Boards.{draft_of}
-use Rattle.flow_commit.proofs.Following.{fit_before, follows_self}
+use Rattle.std.proofs.Common.{◌≡◌, inl, inr, ap, sym, subst, ◌∙◌}
+use Rattle.flow_tables.specs.Owned.{kept_book}
+use Rattle.flow_commit.specs.Boards.{AllWerePosted, draft_of}
+use Rattle.flow_commit.proofs.Following.{fit_before, follows_self, up_before}
 use Rattle.flow_commit.proofs.Ends.{done_on, caused_on}
 use Rattle.flow_commit.proofs.Sealing.{ok_by}
 use Rattle.flow_commit.proofs.survey.drafted.Goals as goal
+
+-- the transaction shows the book that is kept
+pub survey-requires : goal.survey-requires
+survey-requires g c = record {
+  looked = λ sure.
+      let old = c.args.tables.now in
+      let begun = c.begin_anew.new.tables in
+      let fit = (sure.fit, sure.clean) in
+      let was = fit_before g.S.Store old begun c.begin_anew.ensures.follows fit in
+      let was_up = up_before g.S.Store old begun c.begin_anew.ensures.follows fit (c.in_default.ensures.up fit) in
+      let first = kept_book g.S.Store old in
+      let held = c.begin_anew.ensures.own fit was_up in
+      subst (AllWerePosted c.args.posted.now.keys c.args.since) (sym ((c.in_default.ensures.begun fit).1 first held)) (c.requires.looked was was_up first held);
+}
 
 pub returns-clause-made : goal.returns-clause-made
 returns-clause-made g c =

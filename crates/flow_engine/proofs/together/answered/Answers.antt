@@ -15,7 +15,7 @@ told_of-requires-clause-room g c =
     let alone = first_of c.in-Ok.dones.items c.remove.result (omega (arith, long, one)) c.remove.ensures.value in
     let few : are_kept c.remove.result ≤ length batch =
     few_kept g.S.Store c.args.engine.now c.drive.new.engine batch c.remove.result
-    (driven_one g.S.Store c.args.engine.now c.drive.new.engine c.args.batches.items c.in-Ok.dones.items batch c.remove.result is alone (c.requires.some batch is) d.runs d.noted d.up d.own d.given_up d.goes_on) in
+    (driven_one g.S.Store c.args.engine.now c.drive.new.engine c.args.batches.items c.in-Ok.dones.items batch c.remove.result is alone (c.requires.some batch is) d.runs d.noted d.up d.own d.given_up d.counted d.goes_on) in
     let room : vec_len c.args.replies + length batch ≤ vec_capacity c.args.replies = c.requires.room batch is in
     omega (arith, few, room)
 
@@ -26,7 +26,7 @@ returns-in-Ok g c batch is =
     let one : length c.args.batches.items ≡ 1 = c.requires.one in
     let alone = first_of c.in-Ok.dones.items c.remove.result (omega (arith, long, one)) c.remove.ensures.value in
     all_together g.S.Store c.args.engine.now c.drive.new.engine batch c.remove.result c.told_of.result
-    (driven_one g.S.Store c.args.engine.now c.drive.new.engine c.args.batches.items c.in-Ok.dones.items batch c.remove.result is alone (c.requires.some batch is) d.runs d.noted d.up d.own d.given_up d.goes_on) c.told_of.ensures
+    (driven_one g.S.Store c.args.engine.now c.drive.new.engine c.args.batches.items c.in-Ok.dones.items batch c.remove.result is alone (c.requires.some batch is) d.runs d.noted d.up d.own d.given_up d.counted d.goes_on) c.told_of.ensures
 
 pub returns-in-Err : goal.returns-in-Err
 returns-in-Err g c batch is =

@@ -1,6 +1,6 @@
 use Rattle.std.proofs.Common.{subst, sym, ◌∙◌}
 use Rattle.std.proofs.lemmas.Result.{IfErr-weaker, IfOk-weaker}
-use Rattle.flow_lines.specs.Answering.{OfBatch, StopsAtPart, WritesAll, WritesSome}
+use Rattle.flow_lines.specs.Answering.{OfBatch, StopsAtSome, WritesAll, WritesSome}
 use Rattle.flow_lines.proofs.Answering.{none_replied, part_written}
 use Rattle.flow_lines.proofs.Batches.{batch_given_up, batch_replied, caused_batch, given_up_within, replied_within}
 use Rattle.flow_lines.proofs.drive.answer_begun.Goals as goal
@@ -55,5 +55,5 @@ pub returns-in-Err-clause-stopped : goal.returns-in-Err-clause-stopped
 returns-in-Err-clause-stopped g c sure most few lines holds =
     let all = (OfBatch most (g.E.Answering.stops c.args.engine.now c.answer_together.new.self)) in
     let stop = caused_batch most (g.E.Answering.stops c.args.engine.now c.answer_together.new.self) _ _ _ c.requires.some few c.in-Err.ensures.stopped in
-    subst (λ f. StopsAtPart g.E.Answering.rules (OfBatch most (g.E.Answering.gives_up c.args.engine.now c.answer_together.new.self)) all f (g.E.Answering.book c.args.engine.now) (g.E.Answering.book c.answer_together.new.self) lines (g.O.Output.contents c.args.output.now) (g.O.Output.contents c.args.output.now)) (sym c.fault_of_stop.ensures)
+    subst (λ f. StopsAtSome g.E.Answering.rules (OfBatch most (g.E.Answering.gives_up c.args.engine.now c.answer_together.new.self)) all f (g.E.Answering.book c.args.engine.now) (g.E.Answering.book c.answer_together.new.self) lines (g.O.Output.contents c.args.output.now) (g.O.Output.contents c.args.output.now)) (sym c.fault_of_stop.ensures)
     (none_replied _ _ all _ _ lines _ c.in-Err.stop (subst (λ cs. all (g.E.Answering.book c.args.engine.now) cs c.in-Err.stop) holds.commands_are stop))

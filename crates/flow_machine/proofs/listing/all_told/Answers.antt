@@ -7,6 +7,7 @@ use Rattle.flow_machine.specs.Listed.{StuckAt, StuckIn, told_at, told_in}
 use Rattle.flow_machine.specs.Seated.{FitSeats}
 use Rattle.flow_machine.proofs.Causes.{caused_by, other_side}
 use Rattle.flow_machine.proofs.OpenRuns.{all_done, cut_at, fit_less, put_more}
+use Rattle.flow_machine.proofs.Seating.{alike_on}
 use Rattle.flow_machine.proofs.listing.all_told.Goals as goal
 
 pub loop-number-preserved : goal.loop-number-preserved
@@ -28,14 +29,14 @@ loop-number-preserved g c =
       same = λ sure. c.in_ok-run.ensures.same sure ∙ was.same (sure_at sure);
       told = λ sure fit.
           let same = was.same (sure_at sure) in
-          let less = fit_less m old c.args.seats.now c.loop-number.seats fit was.no_more was.ahead in
+          let less = fit_less m old c.args.seats.now c.loop-number.seats fit was.alike was.ahead in
           let here : FitSeats m at c.loop-number.seats = subst (λ (b : Book). FitSeats m b c.loop-number.seats) (sym same) less in
           let one : told_at m old number ≡ run ∷ [] = subst (λ (b : Book). told_at m b number ≡ run ∷ []) same (c.in_ok-run.ensures.told sure here) in
           put_more (told_in m old) (told_at m old) (λ x xs. refl) (told_in m old numbers) (drop i numbers) number rest before c.push.new.self.items cut (was.told (sure_at sure) fit)
           (pushed ∙ ap (λ l. before ++ l) (sym one));
       stuck = λ h. was.stuck (subst (StuckIn m old) (sym cut) (inr h));
       ahead = c.told.ensures.ahead ∙ was.ahead;
-      no_more = λ e there. was.no_more e (c.told.ensures.no_more e there);
+      alike = alike_on was.alike c.told.ensures.alike;
       goes_on = λ now first. c.in_ok-run.ensures.called.goes_on now (was.goes_on (c.told.ensures.called.was_true now) first);
       sure = λ sure. was.sure (sure_at sure);
       was_true = λ now. was.was_true (c.told.ensures.called.was_true now);
@@ -69,8 +70,8 @@ returns-in_err-run-clause-cause g c = λ a follows now first.
     let p = err_from_is_err_and c.from_residual.result c.from_residual.ensures.1 in
     rw (p.1, p.2) (caused_by c.in_err-run.field-0.0 (Refuses ⊎ Stuck) (Refuses ⊎ StuckWithin) (other_side Refuses Stuck StuckWithin stuck) (c.in_err-run.ensures.called.cause a (was.follows a follows) now sure))
 
-pub returns-in_err-run-clause-no_more : goal.returns-in_err-run-clause-no_more
-returns-in_err-run-clause-no_more g c = λ e there. c.loop-number.invariant.no_more e (c.told.ensures.no_more e there)
+pub returns-in_err-run-clause-alike : goal.returns-in_err-run-clause-alike
+returns-in_err-run-clause-alike g c = alike_on c.loop-number.invariant.alike c.told.ensures.alike
 
-pub returns-in_err-push-clause-no_more : goal.returns-in_err-push-clause-no_more
-returns-in_err-push-clause-no_more g c = λ e there. c.loop-number.invariant.no_more e (c.told.ensures.no_more e there)
+pub returns-in_err-push-clause-alike : goal.returns-in_err-push-clause-alike
+returns-in_err-push-clause-alike g c = alike_on c.loop-number.invariant.alike c.told.ensures.alike

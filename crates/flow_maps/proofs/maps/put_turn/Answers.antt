@@ -17,7 +17,7 @@ returns-then-is_of c b seen h =
     let flow = ap (λ (x : Head). x.flow) it.2 in
     let opened = ap (λ (x : Head). x.is_open) it.2 in
     subst (λ (x : Book). Lists c.put_row.new.flows (map open_key x.runs)) (run_is b c.args.run (with_turn t) it.0 here)
-    (c.put_row.ensures b c.args.run it.0 (with_turn t it.0) here (ap (λ v. key_if v it.0.flow) opened ∙ ap (key_if s.head.is_open) flow)
+    (c.put_row.ensures b it.0 (with_turn t it.0) here (ap (λ v. key_if v it.0.flow) opened ∙ ap (key_if s.head.is_open) flow)
     (turn_key t it.0 ∙ ap (λ v. key_if (is_open_behind v t) it.0.flow) opened ∙ ap (λ v. key_if v it.0.flow) (sym c.is_open_behind.ensures) ∙ ap (key_if c.is_open_behind.result) flow) h)
 
 pub returns-else-is_of : goal.returns-else-is_of

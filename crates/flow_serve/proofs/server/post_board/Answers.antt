@@ -1,10 +1,10 @@
-use Rattle.std.proofs.Common.{inl, inr, List, ◌∷◌, ap, ◌∙◌, subst}
+use Rattle.std.proofs.Common.{inl, inr, List, ◌∷◌, ap, ◌∙◌, refl, subst}
 use Rattle.flow_base.specs.declared.fault.Fault.{Fault}
 use Rattle.flow_base.specs.declared.task.Task.{Task}
 use Rattle.flow_commit.specs.Keeping.{account_of}
 use Rattle.flow_hub.proofs.Growing.{before_trans}
 use Rattle.flow_serve.specs.Posting.{PostsOne}
-use Rattle.flow_serve.proofs.Posted.{later_self, posts_still, posts_then, still_later}
+use Rattle.flow_serve.proofs.Posted.{known_still, later_self, posts_still, posts_then, still_later}
 use Rattle.flow_serve.proofs.Serving.{together_still}
 use Rattle.flow_engine.proofs.Boarding.{still_then}
 use Rattle.flow_serve.proofs.Turning.{refused_twice}
@@ -99,3 +99,13 @@ returns-clause-posts g c =
     let then = c.try_board-2.new.publisher.posted in
     let more = posts_then g.S.Store tells mid new was c.try_board.new.publisher.posted then (still_later g.S.Store mid new c.try_board-2.ensures.still) c.try_board.ensures.posts c.try_board-2.ensures.posts in
     posts_still g.S.Store tells new new was then c.skip-2.new.self.posted (later_self g.S.Store new) more (c.skip-2.ensures.skipped.posted ∙ c.skip.ensures.skipped.posted)
+
+-- what the next one may rest on
+pub try_board-2-requires-clause-known : goal.try_board-2-requires-clause-known
+try_board-2-requires-clause-known g c = λ _. c.try_board.ensures.known
+
+pub returns-clause-known : goal.returns-clause-known
+returns-clause-known g c =
+    let new = c.try_board-2.new.engine in
+    known_still new new c.try_board-2.new.publisher.posted c.skip-2.new.self.posted refl (c.skip-2.ensures.skipped.posted ∙ c.skip.ensures.skipped.posted) (λ goes. goes)
+    c.try_board-2.ensures.known

@@ -7,7 +7,7 @@ use Rattle.flow_hub.specs.Knowing.{IsOver}
 use Rattle.flow_hub.proofs.Growing.{before_trans}
 use Rattle.flow_hub.proofs.Sound.{takes_none, takes_then}
 use Rattle.flow_serve.specs.Serving.{GivesUp, HasAnswered, IsBatch, StopsAt}
-use Rattle.flow_serve.proofs.Posted.{answered_later, later_self, posts_still, posts_then, still_later}
+use Rattle.flow_serve.proofs.Posted.{answered_later, known_still, later_self, posts_still, posts_then, still_later}
 use Rattle.flow_serve.proofs.Served.{Served, boarded_done, boarded_first, boarded_last, boarded_more, has_served, served_more}
 use Rattle.flow_engine.proofs.Boarding.{follows_then}
 use Rattle.flow_serve.proofs.Serving.{gives_none, gives_then, stops_behind, together_still}
@@ -95,6 +95,7 @@ loop-init g c =
     let b = c.post_board.ensures in
     record {
       together = b.together;
+      known = b.known;
       halted = b.still.halted;
       still = λ h. (b.still.nothing (sym b.still.halted ∙ h), b.refused);
       turned = boarded_first g.S.Store (g.C.Clock.tells c.args.clock.now) c.args.engine.now c.args.publisher.now.refused
@@ -134,6 +135,7 @@ loop-preserved g c =
     let gives = gives_then was mid.refused told.refused (subst (GivesUp was) (sym c.take.ensures.taken.refused) i.gives) c.in_ok-commit_taken.ensures.given_up in
     record {
       together = b.together;
+      known = b.known;
       halted = b.still.halted ∙ (go.1 ∙ (sym go.0 ∙ i.halted));
       still = λ h. absurd (true≢false (sym h ∙ (b.still.halted ∙ go.1)));
       gives = subst (GivesUp was) (sym b.refused) gives;
@@ -198,8 +200,18 @@ commit_taken-requires g c =
       };
     }
 
-pub post_board-requires-in-loop : goal.post_board-requires-in-loop
-post_board-requires-in-loop g c = record { together = c.commit_taken.ensures.together }
+pub post_board-requires-clause-known : goal.post_board-requires-clause-known
+post_board-requires-clause-known g c = λ again. absurd (true≢false (sym again))
+
+pub post_board-requires-in-loop-clause-together : goal.post_board-requires-in-loop-clause-together
+post_board-requires-in-loop-clause-together g c = c.commit_taken.ensures.together
+
+-- what the last board found posted is posted still
+pub post_board-requires-in-loop-clause-known : goal.post_board-requires-in-loop-clause-known
+post_board-requires-in-loop-clause-known g c =
+    let told = c.commit_taken.new.publisher in
+    λ _. known_still c.loop.engine c.commit_taken.new.engine c.loop.publisher.posted told.posted c.commit_taken.ensures.still
+    (c.commit_taken.ensures.posted ∙ c.take.ensures.taken.posted) (λ _. c.in_ok-commit_taken.ensures.goes_on.0) c.loop.invariant.known
 
 pub returns-then-not-take-clause-together : goal.returns-then-not-take-clause-together
 returns-then-not-take-clause-together g c =

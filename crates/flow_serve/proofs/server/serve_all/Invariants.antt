@@ -4,7 +4,7 @@ use Rattle.flow_commit.specs.Keeping.{account_of}
 use Rattle.flow_hub.specs.Knowing.{IsBefore}
 use Rattle.flow_hub.specs.Publishing.{TakesAll, Together}
 use Rattle.flow_engine.specs.Answering.{Follows}
-use Rattle.flow_serve.specs.Posting.{Posts}
+use Rattle.flow_serve.specs.Posting.{IsKnown, Posts}
 use Rattle.flow_serve.specs.Serving.{GivesUp}
 use Rattle.flow_serve.proofs.Served.{Turned}
 use Rattle.flow_serve.proofs.server.serve_all.Given as goal
@@ -14,6 +14,7 @@ abbrev pub invariant-loop : goal.invariant-loop
 invariant-loop g l =
     record {
       together : Together (account_of g.S.Store l.engine) l.publisher;
+      known : IsKnown l.engine l.publisher.posted;
       halted : l.engine.halted ≡ l.fn.engine.halted;
       still : l.engine.halted ≡ true → (l.engine ≡ l.fn.engine) × (l.publisher.refused ≡ l.fn.publisher.refused);
       gives : GivesUp l.fn.publisher.refused l.publisher.refused;

@@ -5,7 +5,7 @@ use Rattle.flow_tables.proofs.Serving.{none_serve, runs_on}
 use Rattle.flow_tables.proofs.keys.keys_of_runs.Goals as goal
 
 pub loop-run-init : goal.loop-run-init
-loop-run-init c = (λ texts. none_serve c.none-maps.result texts c.none-maps.ensures.keys c.none-maps.ensures.awaits c.none-maps.ensures.signals c.none-maps.ensures.records, c.none-maps.ensures.sees)
+loop-run-init c = (λ texts. none_serve c.none-maps.result texts c.none-maps.ensures.keys c.none-maps.ensures.awaits c.none-maps.ensures.signals c.none-maps.ensures.records, c.none-maps.ensures.sees, c.none-maps.ensures.goes_back)
 
 pub loop-run-preserved : goal.loop-run-preserved
 loop-run-preserved c =
@@ -14,6 +14,7 @@ loop-run-preserved c =
       λ texts. subst (λ xs. Serves c.add_whole.new.maps (record { texts = texts; runs = xs })) (runs_on rs i c.run-item.result c.run-item.is c.loop-run-test.true)
           (c.add_whole.ensures.serves (record { texts = texts; runs = take i rs }) (c.loop-run.invariant.0 texts)),
       c.add_whole.ensures.sees c.loop-run.invariant.1,
+      c.add_whole.ensures.goes_back c.loop-run.invariant.2,
     )
 
 pub returns-clause-serves : goal.returns-clause-serves

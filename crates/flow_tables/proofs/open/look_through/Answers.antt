@@ -1,11 +1,12 @@
 use Rattle.std.specs.Prelude.{◌≡◌}
 use Rattle.flow_sql.specs.Stored.{AreUtf8}
-use Rattle.flow_tables.proofs.Names.{first_damage, by_run, Tells, shown_book, state, false, Some, refl, subst, ◌∙◌, sym, ap, inl, inr}
+use Rattle.flow_tables.proofs.Names.{first_damage, by_run, Tells, WholeBook, shown_book, state, false, MatchResult, None, Some, refl, subst, ◌∙◌, sym, ap, inl, inr}
+use Rattle.flow_base.specs.declared.fault.Damage.{Damage}
 use Rattle.flow_model.specs.Checked.{is_program_by}
-use Rattle.std.proofs.lemmas.Result.{IfOk-at_ok, IfErr-at_err}
-use Rattle.flow_rows.specs.Rows.{Format, AreRowsIn, Two}
-use Rattle.flow_rows.specs.Standing.{StandsFor}
-use Rattle.flow_rows.specs.Told.{TellsIn}
+use Rattle.flow_rows.specs.Rows.{Two}
+use Rattle.flow_rows.specs.Told.{book_in}
+use Rattle.flow_rows.proofs.WholeBooks.{stands_so, tells_so}
+use Rattle.std.specs.Prelude.{Result}
 use Rattle.flow_tables.specs.Asking.{StopsAsk}
 use Rattle.flow_tables.specs.Reads.{IsRowsFault}
 use Rattle.flow_tables.specs.Opening.{opening_fault, HasCause}
@@ -13,24 +14,28 @@ use Rattle.flow_tables.proofs.Opened.{caused}
 use Rattle.flow_tables.proofs.Stopping.{rows_told}
 use Rattle.flow_tables.proofs.open.look_through.Goals as goal
 
-pub read_book-requires : goal.read_book-requires
-read_book-requires g c = (Two, c.in-Ok.ensures.ours)
-
 pub returns-in-Ok-Ok-clause-reads : goal.returns-in-Ok-Ok-clause-reads
 returns-in-Ok-Ok-clause-reads g c clean was =
-    let read = c.in-Ok.ensures.asked.reads false was clean in
-    let tells = IfOk-at_ok (λ b. (f : Format) → AreRowsIn f c.in-Ok.rows.events → TellsIn f (by_run c.in-Ok.rows) (shown_book b)) c.in-Ok-Ok.field-0-is c.in-Ok-Ok.ensures.tells Two c.in-Ok.ensures.ours in
-    (read.0, subst (λ t. Tells t (shown_book c.in-Ok-Ok.book)) read.1.0 tells, subst AreUtf8 read.1.0 c.rows_are_utf8.ensures)
+    let p = is_program_by g.T.Texts.meaning in
+    let it = c.in-Ok-Ok.ensures.read in
+    let told = subst (λ (r : Result WholeBook Damage). MatchResult r (λ b. (first_damage p it.rows ≡ None) × (shown_book b ≡ book_in (by_run it.rows))) (λ d. first_damage p it.rows ≡ Some d)) c.in-Ok-Ok.field-0-is it.told in
+    let read = it.asked.reads false was clean in
+    (read.0, subst (λ t. Tells t (shown_book c.in-Ok-Ok.book)) read.1.0 (tells_so p Two it.rows (shown_book c.in-Ok-Ok.book) it.ours told.0 told.1), subst AreUtf8 read.1.0 it.utf8)
 
 pub returns-in-Ok-Ok-clause-stands : goal.returns-in-Ok-Ok-clause-stands
 returns-in-Ok-Ok-clause-stands g c =
-    let its = IfOk-at_ok (λ b. (f : Format) → AreRowsIn f c.in-Ok.rows.events → StandsFor (is_program_by g.T.Texts.meaning) f c.in-Ok.rows (shown_book b)) c.in-Ok-Ok.field-0-is c.in-Ok-Ok.ensures.stands Two c.in-Ok.ensures.ours in
+    let p = is_program_by g.T.Texts.meaning in
+    let it = c.in-Ok-Ok.ensures.read in
+    let told = subst (λ (r : Result WholeBook Damage). MatchResult r (λ b. (first_damage p it.rows ≡ None) × (shown_book b ≡ book_in (by_run it.rows))) (λ d. first_damage p it.rows ≡ Some d)) c.in-Ok-Ok.field-0-is it.told in
+    let its = stands_so p Two it.rows (shown_book c.in-Ok-Ok.book) it.ours told.0 told.1 in
     record { texts = its.texts; runs = its.runs; same = refl }
 
 pub returns-in-Ok-Err-clause-told : goal.returns-in-Ok-Err-clause-told
 returns-in-Ok-Err-clause-told g c =
-    let first = IfErr-at_err (λ d. first_damage (is_program_by g.T.Texts.meaning) c.in-Ok.rows ≡ Some d) c.in-Ok-Err.field-0-is c.in-Ok-Err.ensures.first in
-    inr (c.in-Ok.rows, (c.in-Ok-Err.found, refl, first), λ clean was. (c.in-Ok.ensures.asked.reads false was clean).1)
+    let p = is_program_by g.T.Texts.meaning in
+    let it = c.in-Ok-Err.ensures.read in
+    let first = subst (λ (r : Result WholeBook Damage). MatchResult r (λ b. (first_damage p it.rows ≡ None) × (shown_book b ≡ book_in (by_run it.rows))) (λ d. first_damage p it.rows ≡ Some d)) c.in-Ok-Err.field-0-is it.told in
+    inr (it.rows, (c.in-Ok-Err.found, refl, first), λ clean was. (it.asked.reads false was clean).1)
 
 pub returns-in-Err-Refused-clause-cause : goal.returns-in-Err-Refused-clause-cause
 returns-in-Err-Refused-clause-cause g c clean =
@@ -41,6 +46,6 @@ returns-in-Err-Refused-clause-cause g c clean =
 pub returns-in-Err-Refused-clause-why : goal.returns-in-Err-Refused-clause-why
 returns-in-Err-Refused-clause-why g c clean was rest =
     let over = was (c.in-Err-Refused.ensures.asked.clean clean) in
-    let stops = subst (StopsAsk false (state g.S.Store c.args.conn.now) (state g.S.Store c.all_rows.new.conn)) c.in-Err-Refused.field-0-is (c.in-Err-Refused.ensures.asked.stops false was clean) in
+    let stops = subst (StopsAsk false (state g.S.Store c.args.conn.now) (state g.S.Store c.told_book.new.conn)) c.in-Err-Refused.field-0-is (c.in-Err-Refused.ensures.asked.stops false was clean) in
     let told = c.opening_fault.ensures ∙ ap opening_fault c.in-Err-Refused.error-is in
-    rows_told g.S.Store c.args.conn.now c.all_rows.new.conn c.opening_fault.result c.in-Err-Refused.error told over (rest.1 over.is_open) stops
+    rows_told g.S.Store c.args.conn.now c.told_book.new.conn c.opening_fault.result c.in-Err-Refused.error told over (rest.1 over.is_open) stops

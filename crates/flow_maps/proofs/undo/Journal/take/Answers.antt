@@ -1,0 +1,6 @@
+use Rattle.std.proofs.Common.{refl, subst, sym}
+use Rattle.flow_maps.specs.Undoing.{Leads}
+use Rattle.flow_maps.proofs.undo.Journal.take.Goals as goal
+
+pub returns-clause-anew : goal.returns-clause-anew
+returns-clause-anew c b = subst (λ us. Leads us b b) (sym c.new.ensures.items) refl
