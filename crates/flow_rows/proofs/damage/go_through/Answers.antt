@@ -37,7 +37,7 @@ returns-clause-seen g c = λ none start.
     let slice : c.as_slice-5.result.now ≡ rows.events = search rules in
     let same : rows_with lists rows.events ≡ rows = c.lists_of-lists.ensures.rows rows.events ∙ (λ k. record { texts = texts k; runs = runs k; events = rows.events; timers = timers k; outbox = outbox k }) in
     let count : c.len-count.result ≡ length lists.runs.now = search rules in
-    let events = counted c.in_ok-pass.pass.seen c.len-count.result (length lists.runs.now) c.as_slice.result.now in
+    let events = counted c.in_ok-pass.pass.seen c.len-count.result (length lists.runs.now) c.as_slice-5.result.now in
     let es = counted_whole lists c.in_ok-pass.pass.seen c.len-count.result c.as_slice-5.result.now c.in_ok-pass.ensures.none count ∙ slice in
     let went = c.in_ok-see_block.ensures.passed p [] (begun p lists c.in_ok-pass.pass c.in_ok-pass.ensures) in
     let all = c.in_ok-see_block.ensures.to ∙ count in
