@@ -1,4 +1,4 @@
-use Rattle.std.proofs.Common.{◌≡◌, inl, inr, ap, sym, subst, ◌∙◌}
+use Rattle.std.proofs.Common.{inr, ap, sym, subst, ◌∙◌}
 use Rattle.flow_tables.specs.Owned.{IsFit, kept_book}
 use Rattle.flow_commit.specs.Boards.{AllWerePosted, draft_of}
 use Rattle.flow_commit.proofs.Following.{fit_before, follows_self, up_before}
