@@ -70,6 +70,13 @@ first_true false b h = absurd (true≢false (sym h))
 pub stay_more : (xs ys : List ℕ) → StayOver xs (xs ++ ys)
 stay_more xs ys n is = over_both xs ys n ∙ first_true (is_over xs n) (is_over ys n) is
 
+later_true : (a b : Bool) → b ≡ true → (a || b) ≡ true
+later_true true b h = refl
+later_true false b h = h
+
+pub stay_end : (xs ys : List ℕ) → StayOver ys (xs ++ ys)
+stay_end xs ys n is = over_both xs ys n ∙ later_true (is_over xs n) (is_over ys n) is
+
 pub stay_self : (xs : List ℕ) → StayOver xs xs
 stay_self xs n is = is
 
