@@ -175,11 +175,11 @@ own_turn b run r t there is = by (nth b.runs run) refl
 
 -- What was shut is so behind these changes, and so is what they close.
 abbrev Goes : Book → Reply → List Change → Type 0
-Goes b reply cs = (n : ℕ) → IsShut b.runs n ⊎ (is_over (shut_in reply cs) n ≡ true) → IsShut (changed_by b cs).runs n
+Goes b said cs = (n : ℕ) → IsShut b.runs n ⊎ (is_over (shut_in said cs) n ≡ true) → IsShut (changed_by b cs).runs n
 
-none_goes : (b : Book) (reply : Reply) → Goes b reply []
-none_goes b reply n (inl s) = s
-none_goes b reply n (inr is) = absurd (true≢false (sym is))
+none_goes : (b : Book) (said : Reply) → Goes b said []
+none_goes b said n (inl s) = s
+none_goes b said n (inr is) = absurd (true≢false (sym is))
 
 -- runs that come, by another reply than that one was started
 abbrev AreRuns : List Change → Type 0
@@ -198,50 +198,50 @@ runs_stay b (AddTurn run t ∷ cs) n are s = absurd are
 runs_stay b (SetAttempt run event attempt ready ∷ cs) n are s = absurd are
 runs_stay b (SetText run text ∷ cs) n are s = absurd are
 
-runs_close : (reply : Reply) (cs : List Change) → started_by reply ≡ [] → AreRuns cs → shut_in reply cs ≡ []
-runs_close reply [] none are = refl
-runs_close reply (AddRun flow request text t ∷ cs) none are = ap (λ xs. xs ++ shut_in reply cs) (by (ends t)) ∙ runs_close reply cs none are
+runs_close : (said : Reply) (cs : List Change) → started_by said ≡ [] → AreRuns cs → shut_in said cs ≡ []
+runs_close said [] none are = refl
+runs_close said (AddRun flow request text t ∷ cs) none are = ap (λ xs. xs ++ shut_in said cs) (by (ends t)) ∙ runs_close said cs none are
   where
-    by : (v : Bool) → cond v (started_by reply) [] ≡ []
+    by : (v : Bool) → cond v (started_by said) [] ≡ []
     by true = none
     by false = refl
-runs_close reply (AddText body ∷ cs) none are = absurd are
-runs_close reply (AddTurn run t ∷ cs) none are = absurd are
-runs_close reply (SetAttempt run event attempt ready ∷ cs) none are = absurd are
-runs_close reply (SetText run text ∷ cs) none are = absurd are
+runs_close said (AddText body ∷ cs) none are = absurd are
+runs_close said (AddTurn run t ∷ cs) none are = absurd are
+runs_close said (SetAttempt run event attempt ready ∷ cs) none are = absurd are
+runs_close said (SetText run text ∷ cs) none are = absurd are
 
 only_first : (a b : Bool) → b ≡ false → (a || b) ≡ true → a ≡ true
 only_first true b none h = refl
 only_first false b none h = absurd (true≢false (sym h ∙ none))
 
 -- a turn of a run that isn't shut, and runs behind it
-turn_goes : (b : Book) (reply : Reply) (run : ℕ) (r : Run) (t : Turn) (cs : List Change) → nth b.runs run ≡ Some r → (IsShut b.runs run → ⊥) → started_by reply ≡ [] → AreRuns cs → Goes b reply (AddTurn run t ∷ cs)
-turn_goes b reply run r t cs there alive none are n (inl s) =
+turn_goes : (b : Book) (said : Reply) (run : ℕ) (r : Run) (t : Turn) (cs : List Change) → nth b.runs run ≡ Some r → (IsShut b.runs run → ⊥) → started_by said ≡ [] → AreRuns cs → Goes b said (AddTurn run t ∷ cs)
+turn_goes b said run r t cs there alive none are n (inl s) =
     runs_stay (changed b (AddTurn run t)) cs n are (other_turn b run n t (λ same. alive (subst (IsShut b.runs) (sym same) s)) s)
-turn_goes b reply run r t cs there alive none are n (inr is) =
-    runs_stay (changed b (AddTurn run t)) cs n are (by (ends t) refl (sym (over_both (cond (ends t) (run ∷ []) []) (shut_in reply cs) n) ∙ is))
+turn_goes b said run r t cs there alive none are n (inr is) =
+    runs_stay (changed b (AddTurn run t)) cs n are (by (ends t) refl (sym (over_both (cond (ends t) (run ∷ []) []) (shut_in said cs) n) ∙ is))
   where
-    rest : is_over (shut_in reply cs) n ≡ false
-    rest = ap (λ xs. is_over xs n) (runs_close reply cs none are)
+    rest : is_over (shut_in said cs) n ≡ false
+    rest = ap (λ xs. is_over xs n) (runs_close said cs none are)
 
-    by : (v : Bool) → ends t ≡ v → (is_over (cond v (run ∷ []) []) n || is_over (shut_in reply cs) n) ≡ true → IsShut (changed b (AddTurn run t)).runs n
+    by : (v : Bool) → ends t ≡ v → (is_over (cond v (run ∷ []) []) n || is_over (shut_in said cs) n) ≡ true → IsShut (changed b (AddTurn run t)).runs n
     by true ended has =
-        let here = only_first (is_over (run ∷ []) n) (is_over (shut_in reply cs) n) rest has in
+        let here = only_first (is_over (run ∷ []) n) (is_over (shut_in said cs) n) rest has in
         let own : run ≡ n = same_is run n (sym (or_false _) ∙ here) in
         subst (IsShut (changed b (AddTurn run t)).runs) own (own_turn b run r t there ended)
-    by false ended has = absurd (true≢false (sym (only_first false (is_over (shut_in reply cs) n) rest has)))
+    by false ended has = absurd (true≢false (sym (only_first false (is_over (shut_in said cs) n) rest has)))
 
-attempt_goes : (b : Book) (reply : Reply) (run event attempt ready : ℕ) → Goes b reply (SetAttempt run event attempt ready ∷ [])
-attempt_goes b reply run event attempt ready n (inl s) = in_run b run n (with_attempt event attempt ready) (λ r none closed. (ap (λ ts. map (at_attempt event attempt ready) ts) none, closed)) s
-attempt_goes b reply run event attempt ready n (inr is) = absurd (true≢false (sym is))
+attempt_goes : (b : Book) (said : Reply) (run event attempt ready : ℕ) → Goes b said (SetAttempt run event attempt ready ∷ [])
+attempt_goes b said run event attempt ready n (inl s) = in_run b run n (with_attempt event attempt ready) (λ r none closed. (ap (λ ts. map (at_attempt event attempt ready) ts) none, closed)) s
+attempt_goes b said run event attempt ready n (inr is) = absurd (true≢false (sym is))
 
-text_goes : (b : Book) (reply : Reply) (run text : ℕ) → Goes b reply (SetText run text ∷ [])
-text_goes b reply run text n (inl s) = in_run b run n (with_text text) (λ r none closed. (none, closed)) s
-text_goes b reply run text n (inr is) = absurd (true≢false (sym is))
+text_goes : (b : Book) (said : Reply) (run text : ℕ) → Goes b said (SetText run text ∷ [])
+text_goes b said run text n (inl s) = in_run b run n (with_text text) (λ r none closed. (none, closed)) s
+text_goes b said run text n (inr is) = absurd (true≢false (sym is))
 
-body_goes : (b : Book) (reply : Reply) (body : Bytes) → Goes b reply (AddText body ∷ [])
-body_goes b reply body n (inl s) = s
-body_goes b reply body n (inr is) = absurd (true≢false (sym is))
+body_goes : (b : Book) (said : Reply) (body : Bytes) → Goes b said (AddText body ∷ [])
+body_goes b said body n (inl s) = s
+body_goes b said body n (inr is) = absurd (true≢false (sym is))
 
 -- the run that the reply names
 started_goes : (b : Book) (flow : Bytes) (request : Option Bytes) (text : ℕ) (t : Turn) → Goes b (reply.Started (length b.runs + 1)) (AddRun flow request text t ∷ [])
@@ -258,17 +258,17 @@ started_goes b flow request text t n (inr is) = by (ends t) refl is
         subst (IsShut (b.runs ++ new ∷ [])) own (record { run = new; there = last_there b.runs new; tasks = so.0; closed = so.1 })
     by false ended has = absurd (true≢false (sym has))
 
-shut_append : (reply : Reply) (cs ds : List Change) → shut_in reply (cs ++ ds) ≡ shut_in reply cs ++ shut_in reply ds
-shut_append reply [] ds = refl
-shut_append reply (c ∷ cs) ds = ap (λ xs. shut_by reply c ++ xs) (shut_append reply cs ds) ∙ sym (append_assoc (shut_by reply c) (shut_in reply cs) (shut_in reply ds))
+shut_append : (said : Reply) (cs ds : List Change) → shut_in said (cs ++ ds) ≡ shut_in said cs ++ shut_in said ds
+shut_append said [] ds = refl
+shut_append said (c ∷ cs) ds = ap (λ xs. shut_by said c ++ xs) (shut_append said cs ds) ∙ sym (append_assoc (shut_by said c) (shut_in said cs) (shut_in said ds))
 
-join_goes : (b : Book) (reply : Reply) (cs ds : List Change) → Goes b reply cs → Goes (changed_by b cs) reply ds → Goes b reply (cs ++ ds)
-join_goes b reply cs ds one two n (inl s) = subst (λ (c : Book). IsShut c.runs n) (sym (changed_append b cs ds)) (two n (inl (one n (inl s))))
-join_goes b reply cs ds one two n (inr is) =
+join_goes : (b : Book) (said : Reply) (cs ds : List Change) → Goes b said cs → Goes (changed_by b cs) said ds → Goes b said (cs ++ ds)
+join_goes b said cs ds one two n (inl s) = subst (λ (c : Book). IsShut c.runs n) (sym (changed_append b cs ds)) (two n (inl (one n (inl s))))
+join_goes b said cs ds one two n (inr is) =
     subst (λ (c : Book). IsShut c.runs n) (sym (changed_append b cs ds))
-    (by (is_over (shut_in reply cs) n) refl (sym (over_both (shut_in reply cs) (shut_in reply ds) n) ∙ ap (λ xs. is_over xs n) (sym (shut_append reply cs ds)) ∙ is))
+    (by (is_over (shut_in said cs) n) refl (sym (over_both (shut_in said cs) (shut_in said ds) n) ∙ ap (λ xs. is_over xs n) (sym (shut_append said cs ds)) ∙ is))
   where
-    by : (v : Bool) → is_over (shut_in reply cs) n ≡ v → (v || is_over (shut_in reply ds) n) ≡ true → IsShut (changed_by (changed_by b cs) ds).runs n
+    by : (v : Bool) → is_over (shut_in said cs) n ≡ v → (v || is_over (shut_in said ds) n) ≡ true → IsShut (changed_by (changed_by b cs) ds).runs n
     by true e h = two n (inl (one n (inr e)))
     by false e h = two n (inr h)
 
@@ -369,9 +369,9 @@ module _ (u : Rules) (b : Book) where
       full = record { at = at; input = Terminated history_limit; commands = [] }
 
       by : (v : Bool) → Has (
-        if v
-        then record { reply = reply.Recorded run (length r.history + 1); changes = AddTurn run made ∷ next_run p r at (continued cs) }
-        else record { reply = reply.Full run (length r.history + 1); changes = AddTurn run full ∷ [] })
+          if v
+          then record { reply = reply.Recorded run (length r.history + 1); changes = AddTurn run made ∷ next_run p r at (continued cs) }
+          else record { reply = reply.Full run (length r.history + 1); changes = AddTurn run full ∷ [] })
       by true = (refl, λ x none. turn_goes b x run r made (next_run p r at (continued cs)) there alive none (next_are p r at (continued cs)))
       by false = (refl, λ x none. turn_goes b x run r full [] there alive none tt)
 

@@ -114,13 +114,7 @@ fn lacks(set: &BTreeSet<u64>, number: u64) -> bool
 }
 
 /// Where the run joins the stretch before it, that one doesn't end there any more, and one behind it doesn't begin there.
-fn merge(
-    begins: bool,
-    closes: bool,
-    firsts: &mut BTreeSet<u64>,
-    ends: &mut BTreeSet<u64>,
-    run: u64,
-)
+fn merge(begins: bool, closes: bool, firsts: &mut BTreeSet<u64>, ends: &mut BTreeSet<u64>, run: u64)
     requires { run < 2 ^ 63 }
     ensures ends { (q : ℕ) → contains nat_cmp ends.new q ≡ cond (not begins && is_same run q) false (contains nat_cmp ends.old q) }
     ensures firsts { (q : ℕ) → contains nat_cmp firsts.new q ≡ cond (not closes && is_same (run + 1) q) false (contains nat_cmp firsts.old q) }

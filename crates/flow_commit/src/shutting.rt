@@ -81,11 +81,7 @@ fn add_started_if(ended: bool, list: &mut Vec<RunId>, reply: &Reply) -> Result<(
 }
 
 /// Lists the run that a change closes.
-fn add_shut_by(
-    list: &mut Vec<RunId>,
-    reply: &Reply,
-    change: &Change,
-) -> Result<(), AllocError>
+fn add_shut_by(list: &mut Vec<RunId>, reply: &Reply, change: &Change) -> Result<(), AllocError>
     ensures { OnOk result (list.new.items ≡ list.old.items ++ rule.shut_by reply.now change.now) }
 {
     match change {

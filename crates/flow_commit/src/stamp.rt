@@ -58,7 +58,7 @@ impl Stamp {
             number,
             account: _,
             own: _,
-            closed: _,
+            closed: _closed,
         } = self;
         number
     }
@@ -71,7 +71,7 @@ impl Stamp {
             number: _,
             account: _,
             own: _,
-            closed: _,
+            closed: _closed,
         } = self;
     }
 }

@@ -12,8 +12,10 @@ use Rattle.flow_serve.proofs.server.try_board.Goals as goal
 
 -- what the last board found posted is posted still
 pub ask_board-requires : goal.ask_board-requires
-ask_board-requires g c = record { still = λ again goes. 
-      known_asked c.args.engine.now (over_in c.args.publisher.now.last) c.args.publisher.now.posted c.posted.result.now c.posted.ensures.still (stays_in c.args.publisher.now.last (account_of g.S.Store c.args.engine.now) c.requires.together.over) (c.requires.known again) goes }
+ask_board-requires g c = record {
+  still = λ again goes.
+      known_asked c.args.engine.now (over_in c.args.publisher.now.last) c.args.publisher.now.posted c.posted.result.now c.posted.ensures.still (stays_in c.args.publisher.now.last (account_of g.S.Store c.args.engine.now) c.requires.together.over) (c.requires.known again) goes;
+}
 
 pub returns-in-Ok-post-clause-known : goal.returns-in-Ok-post-clause-known
 returns-in-Ok-post-clause-known g c =
