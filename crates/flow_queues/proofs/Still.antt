@@ -177,18 +177,16 @@ left_in s ts = filter (λ (t : Task). contains key_cmp s (key_of t)) ts
 
 left_has : (s : BTreeSet Key) (ts : List Task) (q : Key) → has_key (left_in s ts) q ≡ (contains key_cmp s q && has_key ts q)
 left_has s [] q = sym (and_false (contains key_cmp s q))
-left_has s (t ∷ ts) q = by (contains key_cmp s (key_of t)) refl (is_key (key_of t) q) refl
+left_has s (t ∷ ts) q = by (left_has s ts q) (contains key_cmp s (key_of t)) refl (is_key (key_of t) q) refl
   where
-    and_or : (a b : Bool) → (a && (false || b)) ≡ (a && b)
-    and_or a b = refl
-
-    by : (v : Bool) → contains key_cmp s (key_of t) ≡ v → (w : Bool) → is_key (key_of t) q ≡ w → has_key (cond v (t ∷ left_in s ts) (left_in s ts)) q ≡ (contains key_cmp s q && (w || has_key ts q))
-    by true there true own = ap (λ b. b || has_key (left_in s ts) q) own ∙ sym (ap (λ b. b && true) (subst (λ x. contains key_cmp s x ≡ true) (key_is (key_of t) q own) there))
-    by true there false own = ap (λ b. b || has_key (left_in s ts) q) own ∙ left_has s ts q
-    by false there true own =
+    by : has_key (left_in s ts) q ≡ (contains key_cmp s q && has_key ts q) → (v : Bool) → contains key_cmp s (key_of t) ≡ v → (w : Bool) → is_key (key_of t) q ≡ w
+        → has_key (cond v (t ∷ left_in s ts) (left_in s ts)) q ≡ (contains key_cmp s q && (w || has_key ts q))
+    by rest true there true own = ap (λ b. b || has_key (left_in s ts) q) own ∙ sym (ap (λ b. b && true) (subst (λ x. contains key_cmp s x ≡ true) (key_is (key_of t) q own) there))
+    by rest true there false own = ap (λ b. b || has_key (left_in s ts) q) own ∙ rest
+    by rest false there true own =
         let out : contains key_cmp s q ≡ false = subst (λ x. contains key_cmp s x ≡ false) (key_is (key_of t) q own) there in
-        left_has s ts q ∙ ap (λ b. b && has_key ts q) out ∙ sym (ap (λ b. b && true) out)
-    by false there false own = left_has s ts q
+        rest ∙ ap (λ b. b && has_key ts q) out ∙ sym (ap (λ b. b && true) out)
+    by rest false there false own = rest
 
 -- the set has their keys
 left_keys : (over : List ℕ) (s : BTreeSet Key) (ts : List Task) → HasStill over s ts → HasKeys s (left_in s ts)
