@@ -44,7 +44,7 @@ use Rattle.flow_machine.specs.Deciding.{Decides}
 use Rattle.flow_machine.proofs.Heard.{open_is_there}
 use Rattle.flow_machine.proofs.Places.{get_past, nth_kept}
 use Rattle.flow_machine.proofs.Ticks.{changed_append, fired_book, goes_on}
-use Rattle.flow_commit.specs.Over.{is_over}
+use Rattle.flow_commit.specs.Over.{is_over, is_same}
 use Rattle.flow_commit.specs.Shutting.{AreShut, IsShut, ends, ends_at, ends_behind, ends_by, shut_by, shut_in, started_by}
 use Rattle.flow_commit.proofs.Stretches.{or_false, over_both, same_is}
 
@@ -227,7 +227,7 @@ turn_goes b said run r t cs there alive none are n (inr is) =
     by : (v : Bool) → ends t ≡ v → (is_over (cond v (run ∷ []) []) n || is_over (shut_in said cs) n) ≡ true → IsShut (changed b (AddTurn run t)).runs n
     by true ended has =
         let here = only_first (is_over (run ∷ []) n) (is_over (shut_in said cs) n) rest has in
-        let own : run ≡ n = same_is run n (sym (or_false _) ∙ here) in
+        let own : run ≡ n = same_is run n (sym (or_false (is_same run n)) ∙ here) in
         subst (IsShut (changed b (AddTurn run t)).runs) own (own_turn b run r t there ended)
     by false ended has = absurd (true≢false (sym (only_first false (is_over (shut_in said cs) n) rest has)))
 
@@ -253,7 +253,7 @@ started_goes b flow request text t n (inr is) = by (ends t) refl is
 
     by : (v : Bool) → ends t ≡ v → is_over (cond v ((length b.runs + 1) ∷ []) [] ++ []) n ≡ true → IsShut (b.runs ++ new ∷ []) n
     by true ended has =
-        let own : length b.runs + 1 ≡ n = same_is (length b.runs + 1) n (sym (or_false _) ∙ has) in
+        let own : length b.runs + 1 ≡ n = same_is (length b.runs + 1) n (sym (or_false (is_same (length b.runs + 1) n)) ∙ has) in
         let so = shut_turn (unbegun_run flow request text) t ended in
         subst (IsShut (b.runs ++ new ∷ [])) own (record { run = new; there = last_there b.runs new; tasks = so.0; closed = so.1 })
     by false ended has = absurd (true≢false (sym has))

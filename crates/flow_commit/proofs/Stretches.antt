@@ -335,15 +335,15 @@ module _ (firsts ends : BTreeSet ℕ) (runs : List ℕ) (h : AreStretches firsts
         is_next = ap (λ n. is_same n (suc run)) next_is ∙ same_itself (suc run)
 
         begun_own : contains nat_cmp f2 run ≡ (is_over all run && not (was_over all run))
-        begun_own = first_of run true false (same_itself run) no_next ∙ never (not closes) _ ∙ ap (λ v. cond (begins && true) true v) old_first ∙ put_here begins (was_over runs run) begins_so
+        begun_own = first_of run true false (same_itself run) no_next ∙ never (not closes) (cond (begins && true) true (contains nat_cmp firsts run)) ∙ ap (λ v. cond (begins && true) true v) old_first ∙ put_here begins (was_over runs run) begins_so
             ∙ ap not (sym was_own) ∙ ap (λ v. v && not (was_over all run)) (sym now_own)
 
         ended_own : contains nat_cmp e2 run ≡ (not (is_over all run) && was_over all run)
-        ended_own = end_of run true false (same_itself run) no_next ∙ ap (λ v. cond (not begins && true) false v) (never_put closes _ ∙ old_end) ∙ take_here begins (was_over runs run) begins_so
+        ended_own = end_of run true false (same_itself run) no_next ∙ ap (λ v. cond (not begins && true) false v) (never_put closes (contains nat_cmp ends run) ∙ old_end) ∙ take_here begins (was_over runs run) begins_so
             ∙ ap (λ v. not v && was_over all run) (sym now_own)
 
         begun_next : contains nat_cmp f2 (suc run) ≡ (is_over all (suc run) && not (was_over all (suc run)))
-        begun_next = first_of (suc run) false true no_own is_next ∙ ap (λ v. cond (not closes && true) false v) (never_put begins _ ∙ next_first) ∙ take_there closes (is_over runs (suc run)) closes_so
+        begun_next = first_of (suc run) false true no_own is_next ∙ ap (λ v. cond (not closes && true) false v) (never_put begins (contains nat_cmp firsts (suc run)) ∙ next_first) ∙ take_there closes (is_over runs (suc run)) closes_so
             ∙ sym (none (is_over all (suc run))) ∙ ap (λ v. is_over all (suc run) && not v) (sym was_next)
           where
             none : (b : Bool) → (b && false) ≡ false
@@ -351,7 +351,7 @@ module _ (firsts ends : BTreeSet ℕ) (runs : List ℕ) (h : AreStretches firsts
             none false = refl
 
         ended_next : contains nat_cmp e2 (suc run) ≡ (not (is_over all (suc run)) && was_over all (suc run))
-        ended_next = end_of (suc run) false true no_own is_next ∙ never (not begins) _ ∙ ap (λ v. cond (closes && true) true v) next_end ∙ put_there closes (is_over runs (suc run)) closes_so
+        ended_next = end_of (suc run) false true no_own is_next ∙ never (not begins) (cond (closes && true) true (contains nat_cmp ends (suc run))) ∙ ap (λ v. cond (closes && true) true v) next_end ∙ put_there closes (is_over runs (suc run)) closes_so
             ∙ ap not (sym (now_other (suc run) no_own)) ∙ sym (yes (not (is_over all (suc run)))) ∙ ap (λ v. not (is_over all (suc run)) && v) (sym was_next)
           where
             yes : (b : Bool) → (b && true) ≡ b
@@ -363,11 +363,11 @@ module _ (firsts ends : BTreeSet ℕ) (runs : List ℕ) (h : AreStretches firsts
           other_next = ap (λ n. is_same n q) next_is ∙ next
 
           begun_other : contains nat_cmp f2 q ≡ (is_over all q && not (was_over all q))
-          begun_other = first_of q false false own other_next ∙ never (not closes) _ ∙ never_put begins _ ∙ h.begun q
+          begun_other = first_of q false false own other_next ∙ never (not closes) (cond (begins && false) true (contains nat_cmp firsts q)) ∙ never_put begins (contains nat_cmp firsts q) ∙ h.begun q
               ∙ ap (λ v. v && not (was_over runs q)) (sym (now_other q own)) ∙ ap (λ v. is_over all q && not v) (sym (was_other q next))
 
           ended_other : contains nat_cmp e2 q ≡ (not (is_over all q) && was_over all q)
-          ended_other = end_of q false false own other_next ∙ never (not begins) _ ∙ never_put closes _ ∙ h.ended q
+          ended_other = end_of q false false own other_next ∙ never (not begins) (cond (closes && false) true (contains nat_cmp ends q)) ∙ never_put closes (contains nat_cmp ends q) ∙ h.ended q
               ∙ ap (λ v. not v && was_over runs q) (sym (now_other q own)) ∙ ap (λ v. not (is_over all q) && v) (sym (was_other q next))
 
         pub joined : AreStretches f2 e2 all

@@ -14,7 +14,7 @@ loop-run-preserved c q =
     let run = c.run-item.result in
     let rest = drop (i + 1) runs in
     let here : drop i runs ≡ run ∷ rest = drop_at runs i run (search rules) (search rules) in
-    let drops : contains key_cmp c.let_go_one.new.keys q ≡ (contains key_cmp l.keys q && not (is_of (run ∷ []) q.0)) = subst (λ n. contains key_cmp c.let_go_one.new.keys q ≡ (contains key_cmp l.keys q && not (is_of (n ∷ []) q.0))) (search rules) (c.let_go_one.ensures q) in
+    let drops : contains key_cmp c.let_go_one.new.keys q ≡ (contains key_cmp l.keys q && not (is_of (run ∷ []) q.0)) = subst (λ n. contains key_cmp c.let_go_one.new.keys q ≡ (contains key_cmp l.keys q && not (is_of (n ∷ []) q.0))) c.get.ensures.value (c.let_go_one.ensures q) in
     ap (λ v. v && not (is_of rest q.0)) drops ∙ gone_next (contains key_cmp l.keys q) (is_of (run ∷ []) q.0) (is_of rest q.0)
     ∙ ap (λ v. contains key_cmp l.keys q && not v) (sym (of_first run q.0 rest)) ∙ ap (λ xs. contains key_cmp l.keys q && not (is_of xs q.0)) (sym here) ∙ l.invariant q
 
