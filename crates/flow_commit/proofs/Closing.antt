@@ -1,21 +1,18 @@
 -- Runs that are over in the book that tables keep, and what a board names of them.
-use Rattle.std.proofs.Common.{◌≡◌, ◌⊎◌, inl, inr, ℕ, Bool, true, false, cond, ◌&&◌, ◌||◌, not, List, [], ◌∷◌, ◌++◌, filter, Option, Some, None, refl, sym, ap, ◌∙◌, subst, true≢false}
-use Rattle.std.specs.List.{list_any}
-use Rattle.std.proofs.lemmas.Option.{none-some, same_Some}
+use Rattle.std.proofs.Common.{◌≡◌, inl, inr, ℕ, Bool, true, false, cond, ◌||◌, not, List, [], ◌∷◌, ◌++◌, filter, Option, Some, None, refl, sym, ap, ◌∙◌, subst, true≢false}
 use Rattle.sqlite_trees.specs.declared.store.Store.{Ghosts}
 use Rattle.flow_base.specs.Syntax.{Bytes}
 use Rattle.flow_base.specs.Keys.{Key}
 use Rattle.flow_base.specs.declared.book.OpenActivity.{OpenActivity}
-use Rattle.flow_base.specs.declared.book.Run.{Run}
 use Rattle.flow_base.specs.declared.task.Task.{Task}
-use Rattle.flow_model.specs.Book.{Book, nth}
+use Rattle.flow_model.specs.Book.{Book}
 use Rattle.flow_model.proofs.DueFirst.{Has}
 use Rattle.flow_maps.specs.Agenda.{tasks_at, tasks_of as tasks_in_run}
 use Rattle.flow_maps.specs.Outlooks.{Waiting, is_by, ready_by, waiting}
 use Rattle.flow_maps.specs.Timers.{of_run}
 use Rattle.flow_maps.proofs.Sooner.{waits_at}
 use Rattle.flow_tables.specs.Owned.{Stored, IsFit, IsUp, Follows, Keeps, kept_book, state_of}
-use Rattle.flow_commit.specs.Boards.{AllWerePosted, AreStill, Call, WerePosted, call_at, flow_at, is_new, is_posted, names_over, ready_tasks, task_at, task_with, tasks_of}
+use Rattle.flow_commit.specs.Boards.{AreStill, Call, WerePosted, call_at, flow_at, is_new, is_posted, names_over, ready_tasks, task_at, task_with, tasks_of}
 use Rattle.flow_commit.specs.Looking.{HasLooked}
 use Rattle.flow_commit.specs.Over.{StayOver, is_over}
 use Rattle.flow_commit.specs.Shutting.{AreShut, HasShut, IsShut}

@@ -1,5 +1,5 @@
 //! The keys of what was posted, and which tasks of a board are new.
-ghost use Rattle.std.specs.Prelude.{◌≡◌, ◌≤◌, ◌<◌, ◌^◌, ◌+◌, ◌∷◌, [], ◌++◌, ◌&&◌, ◌||◌, cond, not, true, false, ℕ, List, length, vec_len, IfOk, IfErr, OnErr};
+ghost use Rattle.std.specs.Prelude.{◌≡◌, ◌≤◌, ◌<◌, ◌^◌, ◌+◌, ◌∷◌, [], ◌++◌, ◌&&◌, ◌||◌, cond, not, true, false, List, length, vec_len, IfOk, IfErr, OnErr};
 ghost use Rattle.std.specs.BTreeSet.{btree_set_len, contains};
 ghost use Rattle.std.specs.VecDeque.{deque_len, deque_capacity};
 ghost use Rattle.flow_base.specs.Keys.{Key, key_of as the_key};

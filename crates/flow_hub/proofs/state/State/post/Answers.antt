@@ -125,9 +125,9 @@ returns-clause-once g c =
 
 -- where room is refused the keys are as before
 pub returns-in-Err-clause-keys : goal.returns-in-Err-clause-keys
-returns-in-Err-clause-keys g c = rest_same c.args.keys.now c.args.me.was c.args.me.was c.see-me.result.was refl (search rules) c.requires.keys
+returns-in-Err-clause-keys g c = rest_same c.args.keys.now c.args.me.was c.args.me.was c.see-me.result.was refl (c.see-me.ensures.part c.requires.seat.1) c.requires.keys
 
 pub returns-in-Err-add_all-clause-keys : goal.returns-in-Err-add_all-clause-keys
 returns-in-Err-add_all-clause-keys g c =
     let seen = c.see-me.result.was in
-    still_alike (over_in seen.last) c.args.keys.now c.add_all.new.keys seen.posted c.in-Err-add_all.ensures.refused (rest_same c.args.keys.now c.args.me.was c.args.me.was seen refl (search rules) c.requires.keys)
+    still_alike (over_in seen.last) c.args.keys.now c.add_all.new.keys seen.posted c.in-Err-add_all.ensures.refused (rest_same c.args.keys.now c.args.me.was c.args.me.was seen refl (c.see-me.ensures.part c.requires.seat.1) c.requires.keys)
