@@ -12,8 +12,9 @@ use flow_commit::batch::Batch;
 use flow_commit::board::Board;
 use flow_commit::keeper::Keeper;
 use flow_commit::outcome::Outcome;
-use flow_tables::unread::ToldBook;
+use flow_tables::listener::Nobody;
 use flow_tables::tables::Tables;
+use flow_tables::unread::ToldBook;
 use flow_view::fault::ViewFault;
 use sqlite::{Alter, Connection};
 use std::alloc::Global;
@@ -279,8 +280,8 @@ pub fn keeps<S: Alter>(
     conn: Connection<S>,
     keeping: Keeping,
 ) -> (bool, Connection<S>) {
-    match Tables::open(alloc, &Language, conn) {
-        Ok((tables, book)) => over_tables(alloc, tables, &book, keeping),
+    match Tables::open(alloc, &Language, conn, Nobody) {
+        Ok((tables, book, _nobody)) => over_tables(alloc, tables, &book, keeping),
         Err((_, conn)) => (false, conn),
     }
 }
