@@ -13,7 +13,7 @@ use flow_base::value::Value;
 use flow_check::language::Language;
 use flow_programs::kept::Kept;
 use flow_recover::positions::Position;
-use flow_recover::standing::Standing;
+use flow_recover::replayer::Replayer;
 use flow_tables::listener::Listener;
 use flow_tables::tables::Tables;
 use sqlite::{Alter, Connection};
@@ -67,33 +67,33 @@ fn idle_run(alloc: Global, text: u64) -> Option<Run> {
     })
 }
 
-fn hears(alloc: Global, standing: &mut Standing<Kept<Language>>, number: u64) -> Option<bool> {
+fn hears(alloc: Global, replayer: &mut Replayer<Kept<Language>>, number: u64) -> Option<bool> {
     let number = RunId::new(number)?;
     let run = idle_run(alloc, 1)?;
     let text = RawText::new(alloc, A).ok()?;
-    standing.hear(alloc, number, &run, &text);
+    replayer.hear(alloc, number, &run, &text);
     Some(true)
 }
 
 fn hears_without(
     alloc: Global,
-    standing: &mut Standing<Kept<Language>>,
+    replayer: &mut Replayer<Kept<Language>>,
     number: u64,
 ) -> Option<bool> {
     let number = RunId::new(number)?;
     let run = idle_run(alloc, 2)?;
-    standing.hear_without(alloc, number, &run);
+    replayer.hear_without(alloc, number, &run);
     Some(true)
 }
 
 // Whether the runs of the case were told behind the others.
-fn has_heard(alloc: Global, standing: &mut Standing<Kept<Language>>, case: Case) -> bool {
+fn has_heard(alloc: Global, replayer: &mut Replayer<Kept<Language>>, case: Case) -> bool {
     match case {
         Case::Empty | Case::Open | Case::Replayed => true,
         Case::Unreplayable => {
-            hears(alloc, standing, 4).is_some() && hears(alloc, standing, 5).is_some()
+            hears(alloc, replayer, 4).is_some() && hears(alloc, replayer, 5).is_some()
         }
-        Case::NoText => hears_without(alloc, standing, 4).is_some(),
+        Case::NoText => hears_without(alloc, replayer, 4).is_some(),
     }
 }
 
@@ -153,16 +153,16 @@ fn is_refused_so(fault: &Fault, case: Case) -> bool {
     }
 }
 
-fn has(standing: &Standing<Kept<Language>>, case: Case) -> bool {
-    match &standing.refused() {
+fn has(replayer: &Replayer<Kept<Language>>, case: Case) -> bool {
+    match &replayer.refused() {
         Some(fault) => is_refused_so(fault, case),
-        None => are_so_in(standing.positions(), case),
+        None => are_so_in(replayer.positions(), case),
     }
 }
 
-fn is_so(alloc: Global, standing: Standing<Kept<Language>>, case: Case) -> bool {
-    let mut standing = standing;
-    has_heard(alloc, &mut standing, case) && has(&standing, case)
+fn is_so(alloc: Global, replayer: Replayer<Kept<Language>>, case: Case) -> bool {
+    let mut replayer = replayer;
+    has_heard(alloc, &mut replayer, case) && has(&replayer, case)
 }
 
 /// Whether the open runs of a store, and those that are told behind, have these positions, and the store.
@@ -171,9 +171,9 @@ pub fn has_positions<S: Alter>(
     conn: Connection<S>,
     case: Case,
 ) -> (bool, Connection<S>) {
-    let listener = Standing::new(alloc, Kept::new(alloc, Language));
+    let listener = Replayer::new(alloc, Kept::new(alloc, Language));
     match Tables::open(alloc, &Language, conn, listener) {
-        Ok((tables, _book, standing)) => (is_so(alloc, standing, case), tables.into_connection()),
+        Ok((tables, _book, replayer)) => (is_so(alloc, replayer, case), tables.into_connection()),
         Err((_, conn)) => (false, conn),
     }
 }
