@@ -72,8 +72,8 @@ loop-taken-preserved g c =
       fit = λ sure fit. c.in_ok-reply.ensures.fit sure (was.fit (sure_at sure) fit);
       since = λ sure fit posted were.
           let decides = c.in_ok-reply.ensures.decides sure (was.fit (sure_at sure) fit) in
-          let next : c.since_changes-since.result ≡ since_changes c.loop-taken.since changes = search rules in
-          were_decided posted at new reply changes (outcome the_rules at taken.command) c.loop-taken.since c.since_changes-since.result decides next (was.since (sure_at sure) fit posted were);
+          let next : c.since_changes.result ≡ since_changes c.loop-taken.since changes = search rules in
+          were_decided posted at new reply changes (outcome the_rules at taken.command) c.loop-taken.since c.since_changes.result decides next (was.since (sure_at sure) fit posted were);
       alike = alike_on c.args.seats.now c.loop-taken.seats c.decide.new.seats was.alike c.decide.ensures.alike;
       counted = omega (arith, many, shorter, counted);
       stuck = λ sure fit h. was.stuck (sure_at sure) fit (stuck_on the_rules at new left taken.command rest cut reply changes (c.in_ok-reply.ensures.decides sure (was.fit (sure_at sure) fit)) h);
