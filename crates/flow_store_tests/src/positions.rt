@@ -117,7 +117,7 @@ pub fn is_waiting(position: &Position, run: u64) -> bool {
 }
 
 /// Whether the runs with these numbers wait, each on its activity, and no other has a position.
-pub fn are_waiting(list: &[Position], runs: &[u64]) -> bool {
+fn are_waiting(list: &[Position], runs: &[u64]) -> bool {
     let mut are = list.len() == runs.len();
     for (position, run) in list.iter().zip(runs) {
         are = are && is_waiting(position, *run);
