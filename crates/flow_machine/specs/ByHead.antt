@@ -14,7 +14,7 @@ use Rattle.flow_base.specs.declared.book.Turn.{Turn}
 use Rattle.flow_base.specs.declared.book.Change.{Change}
 use Rattle.flow_base.specs.declared.book.Change.TheVariants.{AddRun, AddTurn}
 use Rattle.flow_base.specs.declared.code.Code.{Code}
-use Rattle.flow_base.specs.declared.code.Code.TheVariants.{NoRun, NoOpenRun, OldAttempt, WrongType, NoSuchSignal}
+use Rattle.flow_base.specs.declared.code.Code.TheVariants.{NoRun, NoOpenRun, NotOpen, OldAttempt, WrongType, NoSuchSignal}
 use Rattle.flow_base.specs.declared.command.Complete.{Complete}
 use Rattle.flow_base.specs.declared.command.Fail.{Fail}
 use Rattle.flow_base.specs.declared.command.Reply.TheVariants as reply
@@ -172,3 +172,18 @@ fired_at u b at d = if_sound (head_at b.runs d.run) (λ h. input_at u b h d.run 
 
 unfoldable pub StuckFiredAt : (Bytes → Result Program TextFault) → Book → Due → Type 0
 StuckFiredAt program_of b d = needs (head_at b.runs d.run) (λ h. StuckInputAt program_of b h d.run (TimerFired d.id))
+
+---- Runs that are closed from outside
+
+-- the turn that closes a run, behind an event of this moment and under this number
+abbrev pub ended_by : ℕ → ℕ → ℕ → Bytes → ℕ → Outcome
+ended_by moment event run reason at =
+    record {
+      reply = reply.Recorded run event;
+      changes = AddTurn run (record { at = max at moment; input = Terminated reason; commands = [] }) ∷ [];
+    }
+
+unfoldable pub terminate_at : Book → ℕ → Bytes → ℕ → Outcome
+terminate_at b run reason at =
+    must_be (head_at b.runs run) NoRun (λ h.
+    must_hold h.is_open NotOpen (ended_by h.moment (h.events + 1) run reason at))
