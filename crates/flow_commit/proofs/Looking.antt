@@ -186,13 +186,14 @@ waits_posted posted since b were w has sooner = ap not (were_one posted since w.
 -- what was posted is new to nobody, whether it is looked at or not
 same_new : (posted : List Key) (since at : ℕ) (ws : List Waiting) → ((w : Waiting) → Has ws w → w.1.ready < since → is_new posted w ≡ false) → filter (is_new posted) (filter (is_within since at) ws) ≡ filter (is_new posted) (filter (is_by at) ws)
 same_new posted since at [] told = refl
-same_new posted since at (w ∷ ws) told = elim (cases_Bool (nat_le since w.1.ready)) [
-  | inl late ↦ ap (λ v. fresh (cond (v && is_by at w) (w ∷ within) within)) late ∙ here (is_by at w)
-  | inr early ↦
-      let less = leb-false since w.1.ready early in
-      let none : is_new posted w ≡ false = told w (inl refl) (omega (arith, less)) in
-      ap (λ v. fresh (cond (v && is_by at w) (w ∷ within) within)) early ∙ rest ∙ sym (gone none (is_by at w))
-]
+same_new posted since at (w ∷ ws) told =
+    let rest = same_new posted since at ws (λ x has. told x (inr has)) in elim (cases_Bool (nat_le since w.1.ready)) [
+      | inl late ↦ ap (λ v. fresh (cond (v && is_by at w) (w ∷ within) within)) late ∙ here rest (is_by at w)
+      | inr early ↦
+          let less = leb-false since w.1.ready early in
+          let none : is_new posted w ≡ false = told w (inl refl) (omega (arith, less)) in
+          ap (λ v. fresh (cond (v && is_by at w) (w ∷ within) within)) early ∙ rest ∙ sym (gone none (is_by at w))
+    ]
   where
     fresh : List Waiting → List Waiting
     fresh vs = filter (is_new posted) vs
@@ -203,12 +204,9 @@ same_new posted since at (w ∷ ws) told = elim (cases_Bool (nat_le since w.1.re
     soon : List Waiting
     soon = filter (is_by at) ws
 
-    rest : fresh within ≡ fresh soon
-    rest = same_new posted since at ws (λ x has. told x (inr has))
-
-    here : (v : Bool) → fresh (cond v (w ∷ within) within) ≡ fresh (cond v (w ∷ soon) soon)
-    here true = ap (λ vs. cond (is_new posted w) (w ∷ vs) vs) rest
-    here false = rest
+    here : fresh within ≡ fresh soon → (v : Bool) → fresh (cond v (w ∷ within) within) ≡ fresh (cond v (w ∷ soon) soon)
+    here rest true = ap (λ vs. cond (is_new posted w) (w ∷ vs) vs) rest
+    here rest false = rest
 
     gone : is_new posted w ≡ false → (v : Bool) → fresh (cond v (w ∷ soon) soon) ≡ fresh soon
     gone none true = ap (λ n. cond n (w ∷ fresh soon) (fresh soon)) none
