@@ -203,7 +203,7 @@ fn change_records(records: &mut Records, seen: &Option<Seen>, next: &Option<RunI
         → KnowsRecords records.new (changed b change.now) }
 {
     match change {
-        Change::AddText(_) => {}
+        Change::AddText(body) => records.add_text(body),
         Change::AddRun(flow, request, text, turn) => {
             records.begin(next, flow, request, *text, turn)
         }
@@ -495,6 +495,15 @@ impl Maps {
         };
     }
 
+    /// There are so many texts.
+    pub fn count_texts(&mut self, count: u64)
+        ensures serves { (b : Book) → length b.texts ≡ count → Serves self.old b → Serves self.new b }
+        ensures sees { (b : Book) → Sees self.old b → Sees self.new b }
+        ensures goes_back { (b c : Book) → GoesBack self.old b c → GoesBack self.new b c }
+    {
+        self.records.count_texts(count);
+    }
+
     /// One more run.
     fn add(&mut self, flow: &Key, request: &Option<Key>, is_open: bool)
         ensures keys { (b : Book) → (r : ARun) → r.request ≡ request.now → open_key r ≡ key_if is_open flow.now → AreRunKeys self.old b
@@ -758,6 +767,13 @@ impl Maps {
         ensures { IfSome result (λ t. (b : Book) → Serves self.now b → Some t ≡ nth b.texts number) }
     {
         self.records.text(number)
+    }
+
+    /// How many texts there are, if that is known.
+    pub fn text_count(&self) -> Option<u64>
+        ensures { IfSome result (λ n. (b : Book) → Serves self.now b → n ≡ length b.texts) }
+    {
+        self.records.text_count()
     }
 
     /// How many runs there are, if that is known.
