@@ -25,10 +25,11 @@ use Rattle.flow_model.specs.WellFormed.{signal_of}
 use Rattle.flow_model.specs.Turn.{Fresh}
 use Rattle.flow_model.specs.Turned.{turned, position_by_inputs}
 use Rattle.flow_model.specs.Book.{Book, nth, open_run, signalled}
-use Rattle.flow_model.specs.Apply.{Rules, Outcome, run_from, next_run, first_turn, continued, turn_made, recorded, input_recorded, report_refusal, failure_refusal, attempt_failed, signal_recorded, if_sound, must_be, must_hold, none_there, tested, refuse_unless, on_task, task_at, gives_kind, tries_of, program_at, retried, ready_after, complete, fail, signal, fired, terminate, terminated}
+use Rattle.flow_model.specs.Apply.{Rules, Outcome, run_from, next_run, first_turn, continued, turn_made, recorded, input_recorded, report_refusal, failure_refusal, attempt_failed, signal_recorded, if_sound, must_be, must_hold, none_there, tested, refuse_unless, on_task, task_at, gives_kind, tries_of, program_at, retried, ready_after, complete, describe, fail, says, signal, fired, terminate, terminated}
 use Rattle.flow_view.specs.Heads.{head_of, head_if, event_if}
+use Rattle.flow_view.specs.Standings.{standing_if, standing_of}
 use Rattle.flow_view.specs.declared.head.Head.{Head}
-use Rattle.flow_machine.specs.ByHead.{history_if, begun_by, next_by, made_by, recorded_by, recorded_at, input_at, StuckInputAt, attempt_refusal, given_at, StuckGivenAt, complete_at, StuckCompleteAt, run_failed_at, StuckFailureAt, fail_at, StuckFailAt, on_signal, signal_refused, signal_at, StuckSignalAt, run_sent_at, StuckSentAt, sent_at, StuckSendAt, fired_at, StuckFiredAt, ended_by, terminate_at}
+use Rattle.flow_machine.specs.ByHead.{history_if, begun_by, next_by, made_by, recorded_by, recorded_at, input_at, StuckInputAt, attempt_refusal, given_at, StuckGivenAt, complete_at, StuckCompleteAt, run_failed_at, StuckFailureAt, fail_at, StuckFailAt, on_signal, signal_refused, signal_at, StuckSignalAt, run_sent_at, StuckSentAt, sent_at, StuckSendAt, fired_at, StuckFiredAt, ended_by, terminate_at, described_by, describe_at}
 use Rattle.flow_machine.specs.Stuck.{unless_there, where_there, where_holds, unless_holds, needs, CantRecord, StuckInput, StuckSent, StuckSignal, StuckComplete, StuckFail, StuckFailed, StuckFired}
 
 ---- Turns
@@ -270,6 +271,17 @@ terminate_is b run reason at =
     elim (nth b.runs run) as (λ (o : Option Run).
     must_be o NoRun (λ r. must_hold (is_open (state_of r.history)) NotOpen (terminated r run reason at))
     ≡ must_be (head_if o) NoRun (λ h. must_hold h.is_open NotOpen (ended_by h.moment (h.events + 1) run reason at))) [
+      | None ↦ refl
+      | Some r ↦ refl
+    ]
+
+---- Runs that are told
+
+pub describe_is : (b : Book) (run : ℕ) → describe b run ≡ describe_at b run
+unfolding describe describe_at
+describe_is b run =
+    elim (nth b.runs run) as (λ (o : Option Run).
+    must_be o NoRun (λ r. says (reply.Run (described_by (standing_of r)))) ≡ must_be (standing_if o) NoRun (λ s. says (reply.Run (described_by s)))) [
       | None ↦ refl
       | Some r ↦ refl
     ]

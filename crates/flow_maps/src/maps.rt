@@ -18,6 +18,8 @@ ghost use Rattle.flow_maps.specs.Undoing.{GoesBack, IsUndo, Leads, LeavesHistory
 ghost use Rattle.flow_maps.specs.declared.signals.SignalTaken.TheVariants.{NoSignal};
 ghost use Rattle.flow_maps.specs.Serving.{Serves, Sees, IsSeen, IsRead, AreKeys, AreRunKeys, Awaits, HasSignals, HasRecords, open_key, request_key, key_if, named};
 ghost use Rattle.flow_view.specs.Heads.{head_at, head_of, event_at};
+ghost use Rattle.flow_view.specs.Standings.{standing_at};
+ghost use Rattle.flow_maps.specs.Told.{made_open};
 
 use crate::agenda::Agenda;
 use crate::heads::{copied, copied_request};
@@ -28,11 +30,12 @@ use crate::signals::{SignalTaken, Signals, is_quiet};
 use crate::turned::{count_behind, is_open_behind};
 use crate::undo::{Journal, RunBefore, RunBegun, Undo};
 use flow_base::book::{Change, Due, OpenActivity, Run, Timer, Turn};
-use flow_base::event::Event;
+use flow_base::event::{Event, State};
 use flow_base::number::{EventId, Moment, RunId, TextNo};
 use flow_base::sequence::Sequence;
 use flow_base::text::{Key, RawText};
 use flow_view::head::{Head, head_of};
+use flow_view::standing::Standing;
 use std::alloc::Global;
 
 /// The run that was read last: a turn of it is known to leave the keys so.
@@ -225,6 +228,23 @@ fn keep_read(records: &mut Records, read: Option<ReadText>)
             records.keep_text(number, body);
         }
         None => {}
+    }
+}
+
+/// How a run of this head and these timers stands, if it is open and they are known.
+fn open_standing(head: Head, timers: Option<Sequence<Timer>>) -> Option<Standing>
+    ensures { IfSome result (λ s. (head.is_open ≡ true) × ((timers ≡ Some s.timers) × (s ≡ made_open head s.timers))) }
+{
+    if !head.is_open {
+        return None;
+    }
+    match timers {
+        Some(timers) => Some(Standing {
+            head,
+            state: State::Open,
+            timers,
+        }),
+        None => None,
     }
 }
 
@@ -760,6 +780,16 @@ impl Maps {
         ensures { IfSome result (λ e. (b : Book) → Serves self.now b → Some e ≡ event_at b.runs run event) }
     {
         self.records.event(run, event)
+    }
+
+    /// How an open run stands, if that is known and there is memory for it.
+    pub fn standing(&self, run: RunId) -> Option<Standing>
+        ensures { IfSome result (λ s. (b : Book) → Serves self.now b → Some s ≡ standing_at b.runs run) }
+    {
+        match self.records.head(run) {
+            Some(known) => open_standing(known, self.agenda.copy_timers(run)),
+            None => None,
+        }
     }
 
     /// The text of a number, if it is known and there is memory for it.

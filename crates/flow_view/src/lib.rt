@@ -8,4 +8,5 @@ pub mod history;
 pub mod left;
 pub mod lists;
 pub mod run;
+pub mod standing;
 pub mod view;
