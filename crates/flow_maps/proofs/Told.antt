@@ -1,5 +1,5 @@
 -- What is known of an open run is how it stands.
-use Rattle.std.proofs.Common.{◌≡◌, ◌∙◌, ℕ, Bool, true, false, List, Option, Some, None, refl, sym, ap, subst}
+use Rattle.std.proofs.Common.{◌≡◌, ◌∙◌, ℕ, true, false, List, Option, Some, None, refl, sym, ap, subst}
 use Rattle.std.specs.Prelude.{IfSome}
 use Rattle.std.proofs.lemmas.Option.{none-some, same_Some}
 use Rattle.flow_base.specs.declared.book.Run.{Run}
@@ -8,7 +8,7 @@ use Rattle.flow_base.specs.declared.event.State.{State}
 use Rattle.flow_base.specs.declared.event.State.TheVariants.{Unbegun, Open, Completed, Failed, Continued, Terminated}
 use Rattle.flow_model.specs.Book.{Book, nth}
 use Rattle.flow_model.specs.Configuration.{is_open}
-use Rattle.flow_model.specs.Open.{state_of, timers_left}
+use Rattle.flow_model.specs.Open.{state_of}
 use Rattle.flow_view.specs.Heads.{head_at, head_if, head_of}
 use Rattle.flow_view.specs.Standings.{standing_at, standing_if, standing_of}
 use Rattle.flow_view.specs.declared.head.Head.{Head}

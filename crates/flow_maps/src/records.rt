@@ -34,11 +34,11 @@ fn next_text(count: Option<u64>) -> Option<TextNo>
     ensures { (k : ℕ) → IfSome count (λ c. c ≡ k) → IfSome result (λ n. n ≡ k + 1) }
 {
     match count {
-        Some(count) => {
-            if count >= LAST_NUMBER {
+        Some(known) => {
+            if known >= LAST_NUMBER {
                 return None;
             }
-            TextNo::new(count + 1)
+            Some(TextNo::new(known + 1).unwrap())
         }
         None => None,
     }
@@ -59,11 +59,11 @@ fn one_less(count: Option<u64>) -> Option<u64>
     ensures { (k : ℕ) → IfSome count (λ c. c ≡ k + 1) → IfSome result (λ c. c ≡ k) }
 {
     match count {
-        Some(count) => {
-            if count == 0 {
+        Some(known) => {
+            if known == 0 {
                 return None;
             }
-            Some(count - 1)
+            Some(known - 1)
         }
         None => None,
     }
