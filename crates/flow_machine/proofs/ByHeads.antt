@@ -27,7 +27,7 @@ use Rattle.flow_model.specs.Turned.{turned, position_by_inputs}
 use Rattle.flow_model.specs.Book.{Book, nth, open_run, signalled}
 use Rattle.flow_model.specs.Apply.{Rules, Outcome, run_from, next_run, first_turn, continued, turn_made, recorded, input_recorded, report_refusal, failure_refusal, attempt_failed, signal_recorded, if_sound, must_be, must_hold, none_there, tested, refuse_unless, on_task, task_at, gives_kind, tries_of, program_at, retried, ready_after, complete, describe, fail, says, signal, fired, terminate, terminated}
 use Rattle.flow_view.specs.Heads.{head_of, head_if, event_if}
-use Rattle.flow_view.specs.Standings.{standing_if, standing_of}
+use Rattle.flow_view.specs.Outlines.{outline_if, outline_of}
 use Rattle.flow_view.specs.declared.head.Head.{Head}
 use Rattle.flow_machine.specs.ByHead.{history_if, begun_by, next_by, made_by, recorded_by, recorded_at, input_at, StuckInputAt, attempt_refusal, given_at, StuckGivenAt, complete_at, StuckCompleteAt, run_failed_at, StuckFailureAt, fail_at, StuckFailAt, on_signal, signal_refused, signal_at, StuckSignalAt, run_sent_at, StuckSentAt, sent_at, StuckSendAt, fired_at, StuckFiredAt, ended_by, terminate_at, described_by, describe_at}
 use Rattle.flow_machine.specs.Stuck.{unless_there, where_there, where_holds, unless_holds, needs, CantRecord, StuckInput, StuckSent, StuckSignal, StuckComplete, StuckFail, StuckFailed, StuckFired}
@@ -281,7 +281,7 @@ pub describe_is : (b : Book) (run : ℕ) → describe b run ≡ describe_at b ru
 unfolding describe describe_at
 describe_is b run =
     elim (nth b.runs run) as (λ (o : Option Run).
-    must_be o NoRun (λ r. says (reply.Run (described_by (standing_of r)))) ≡ must_be (standing_if o) NoRun (λ s. says (reply.Run (described_by s)))) [
+    must_be o NoRun (λ r. says (reply.Run (described_by (outline_of r)))) ≡ must_be (outline_if o) NoRun (λ s. says (reply.Run (described_by s)))) [
       | None ↦ refl
       | Some r ↦ refl
     ]

@@ -30,9 +30,9 @@ use Rattle.flow_model.specs.WellFormed.{signal_of}
 use Rattle.flow_model.specs.Book.{Book, nth, signalled, open_run}
 use Rattle.flow_model.specs.Apply.{Rules, Outcome, must_be, must_hold, none_there, tested, refuse_unless, on_task, task_at, if_sound, program_at, first_turn, continued, gives_kind, tries_of, ready_after, retried, says, history_limit}
 use Rattle.flow_view.specs.declared.head.Head.{Head}
-use Rattle.flow_view.specs.declared.standing.Standing.{Standing}
+use Rattle.flow_view.specs.declared.outline.Outline.{Outline}
 use Rattle.flow_view.specs.Heads.{head_at, event_at}
-use Rattle.flow_view.specs.Standings.{standing_at}
+use Rattle.flow_view.specs.Outlines.{outline_at}
 use Rattle.flow_machine.specs.Stuck.{unless_there, where_there, where_holds, unless_holds, needs, CantRecord}
 
 -- the history of a run; none where there is no such run
@@ -196,7 +196,7 @@ terminate_at b run reason at =
 ---- Runs that are told
 
 -- a run that stands so, told
-abbrev pub described_by : Standing → Description
+abbrev pub described_by : Outline → Description
 described_by s =
     record {
       flow = s.head.flow;
@@ -208,4 +208,4 @@ described_by s =
     }
 
 unfoldable pub describe_at : Book → ℕ → Outcome
-describe_at b run = must_be (standing_at b.runs run) NoRun (λ s. says (reply.Run (described_by s)))
+describe_at b run = must_be (outline_at b.runs run) NoRun (λ s. says (reply.Run (described_by s)))

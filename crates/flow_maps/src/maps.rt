@@ -18,7 +18,7 @@ ghost use Rattle.flow_maps.specs.Undoing.{GoesBack, IsUndo, Leads, LeavesHistory
 ghost use Rattle.flow_maps.specs.declared.signals.SignalTaken.TheVariants.{NoSignal};
 ghost use Rattle.flow_maps.specs.Serving.{Serves, Sees, IsSeen, IsRead, AreKeys, AreRunKeys, Awaits, HasSignals, HasRecords, open_key, request_key, key_if, named};
 ghost use Rattle.flow_view.specs.Heads.{head_at, head_of, event_at};
-ghost use Rattle.flow_view.specs.Standings.{standing_at};
+ghost use Rattle.flow_view.specs.Outlines.{outline_at};
 ghost use Rattle.flow_maps.specs.Told.{made_open};
 
 use crate::agenda::Agenda;
@@ -35,7 +35,7 @@ use flow_base::number::{EventId, Moment, RunId, TextNo};
 use flow_base::sequence::Sequence;
 use flow_base::text::{Key, RawText};
 use flow_view::head::{Head, head_of};
-use flow_view::standing::Standing;
+use flow_view::outline::Outline;
 use std::alloc::Global;
 
 /// The run that was read last: a turn of it is known to leave the keys so.
@@ -232,14 +232,14 @@ fn keep_read(records: &mut Records, read: Option<ReadText>)
 }
 
 /// How a run of this head and these timers stands, if it is open and they are known.
-fn open_standing(head: Head, timers: Option<Sequence<Timer>>) -> Option<Standing>
+fn open_outline(head: Head, timers: Option<Sequence<Timer>>) -> Option<Outline>
     ensures { IfSome result (λ s. (head.is_open ≡ true) × ((timers ≡ Some s.timers) × (s ≡ made_open head s.timers))) }
 {
     if !head.is_open {
         return None;
     }
     match timers {
-        Some(timers) => Some(Standing {
+        Some(timers) => Some(Outline {
             head,
             state: State::Open,
             timers,
@@ -783,11 +783,11 @@ impl Maps {
     }
 
     /// How an open run stands, if that is known and there is memory for it.
-    pub fn standing(&self, run: RunId) -> Option<Standing>
-        ensures { IfSome result (λ s. (b : Book) → Serves self.now b → Some s ≡ standing_at b.runs run) }
+    pub fn outline(&self, run: RunId) -> Option<Outline>
+        ensures { IfSome result (λ s. (b : Book) → Serves self.now b → Some s ≡ outline_at b.runs run) }
     {
         match self.records.head(run) {
-            Some(known) => open_standing(known, self.agenda.copy_timers(run)),
+            Some(known) => open_outline(known, self.agenda.copy_timers(run)),
             None => None,
         }
     }

@@ -1,6 +1,6 @@
 //! How a run stands: what is told of it without its history.
 ghost use Rattle.std.specs.Prelude.{◌≡◌, IfOk};
-ghost use Rattle.flow_view.specs.Standings as standings;
+ghost use Rattle.flow_view.specs.Outlines as outlines;
 
 use crate::head::{Head, head_of};
 use crate::history::{state_of, timers_left};
@@ -11,7 +11,7 @@ use std::alloc::{AllocError, Global};
 
 /// A run without its events, but with what they leave.
 #[derive(Debug, Drop)]
-pub struct Standing {
+pub struct Outline {
     pub head: Head,
     pub state: State,
     /// Its open timers in rising order of their events.
@@ -19,13 +19,13 @@ pub struct Standing {
 }
 
 /// How a run stands that is whole.
-pub fn standing_of(alloc: Global, run: &Run) -> Result<Standing, AllocError>
-    ensures { IfOk result (λ s. s ≡ standings.standing_of run.now) }
+pub fn outline_of(alloc: Global, run: &Run) -> Result<Outline, AllocError>
+    ensures { IfOk result (λ s. s ≡ outlines.outline_of run.now) }
 {
     let head = head_of(alloc, run)?;
     let events = run.history.as_slice();
     let timers = timers_left(alloc, events)?;
-    Ok(Standing {
+    Ok(Outline {
         head,
         state: state_of(events),
         timers: Sequence::from_vec(timers),
