@@ -1,7 +1,7 @@
 -- What a board needn't look at: what becomes of it by a change, and behind a board.
-use Rattle.std.proofs.Common.{◌≡◌, ◌⊎◌, inl, inr, ◌≤◌, ◌<◌, ◌+◌, ℕ, zero, suc, Bool, true, false, cond, ◌&&◌, not, List, [], ◌∷◌, ◌++◌, length, filter, map, Option, Some, None, slice_set, ◌-◌, refl, sym, ap, ◌∙◌, subst, arith, true≢false}
+use Rattle.std.proofs.Common.{◌≡◌, ◌⊎◌, inl, inr, ◌≤◌, ◌<◌, ◌+◌, ℕ, suc, Bool, true, false, cond, ◌&&◌, not, List, [], ◌∷◌, ◌++◌, length, filter, map, Option, Some, None, slice_set, ◌-◌, refl, sym, ap, ◌∙◌, subst, arith, true≢false}
 use Rattle.std.specs.Prelude.{nat_eq, nat_le, nat_lt, if◌then◌else◌}
-use Rattle.std.proofs.lemmas.Bool.{cases_Bool, leb-true, leb-false, ltb-true, ltb-false}
+use Rattle.std.proofs.lemmas.Bool.{cases_Bool, leb-false, ltb-true, ltb-false}
 use Rattle.sqlite_trees.specs.declared.store.Store.{Ghosts}
 use Rattle.flow_base.specs.Keys.{Key}
 use Rattle.flow_base.specs.declared.book.Change.{Change}
@@ -29,8 +29,8 @@ use Rattle.flow_maps.specs.declared.outlook.BookWaits.{BookWaits}
 use Rattle.flow_maps.proofs.Planning.{at_more, at_set}
 use Rattle.flow_maps.proofs.Slots.{run_is}
 use Rattle.flow_maps.proofs.Sooner.{at_waits, waits_at}
-use Rattle.flow_tables.specs.Owned.{Stored, IsFit, IsUp, Follows, Keeps, book_now, kept_book, state_of}
-use Rattle.flow_commit.specs.Boards.{AllWerePosted, AreAmong, WerePosted, draft_of, is_new, is_posted, ready_tasks, since_all, since_changed, since_changes, since_next, since_one, sooner_of, tasks_of as tasks_in}
+use Rattle.flow_tables.specs.Owned.{Stored, IsFit, IsUp, Follows, Keeps, kept_book, state_of}
+use Rattle.flow_commit.specs.Boards.{AllWerePosted, AreAmong, WerePosted, draft_of, is_new, is_posted, since_all, since_changed, since_changes, since_next, since_one, sooner_of, tasks_of as tasks_in}
 use Rattle.flow_commit.specs.Looking.{HasLooked, IfKept}
 use Rattle.flow_commit.specs.declared.transaction.End.{End}
 use Rattle.flow_commit.specs.declared.transaction.End.TheVariants as end
@@ -186,13 +186,14 @@ waits_posted posted since b were w has sooner = ap not (were_one posted since w.
 -- what was posted is new to nobody, whether it is looked at or not
 same_new : (posted : List Key) (since at : ℕ) (ws : List Waiting) → ((w : Waiting) → Has ws w → w.1.ready < since → is_new posted w ≡ false) → filter (is_new posted) (filter (is_within since at) ws) ≡ filter (is_new posted) (filter (is_by at) ws)
 same_new posted since at [] told = refl
-same_new posted since at (w ∷ ws) told = elim (cases_Bool (nat_le since w.1.ready)) [
-  | inl late ↦ ap (λ v. fresh (cond (v && is_by at w) (w ∷ within) within)) late ∙ here (is_by at w)
-  | inr early ↦
-      let less = leb-false since w.1.ready early in
-      let none : is_new posted w ≡ false = told w (inl refl) (omega (arith, less)) in
-      ap (λ v. fresh (cond (v && is_by at w) (w ∷ within) within)) early ∙ rest ∙ sym (gone none (is_by at w))
-]
+same_new posted since at (w ∷ ws) told =
+    let rest = same_new posted since at ws (λ x has. told x (inr has)) in elim (cases_Bool (nat_le since w.1.ready)) [
+      | inl late ↦ ap (λ v. fresh (cond (v && is_by at w) (w ∷ within) within)) late ∙ here rest (is_by at w)
+      | inr early ↦
+          let less = leb-false since w.1.ready early in
+          let none : is_new posted w ≡ false = told w (inl refl) (omega (arith, less)) in
+          ap (λ v. fresh (cond (v && is_by at w) (w ∷ within) within)) early ∙ rest ∙ sym (gone none (is_by at w))
+    ]
   where
     fresh : List Waiting → List Waiting
     fresh vs = filter (is_new posted) vs
@@ -203,12 +204,9 @@ same_new posted since at (w ∷ ws) told = elim (cases_Bool (nat_le since w.1.re
     soon : List Waiting
     soon = filter (is_by at) ws
 
-    rest : fresh within ≡ fresh soon
-    rest = same_new posted since at ws (λ x has. told x (inr has))
-
-    here : (v : Bool) → fresh (cond v (w ∷ within) within) ≡ fresh (cond v (w ∷ soon) soon)
-    here true = ap (λ vs. cond (is_new posted w) (w ∷ vs) vs) rest
-    here false = rest
+    here : fresh within ≡ fresh soon → (v : Bool) → fresh (cond v (w ∷ within) within) ≡ fresh (cond v (w ∷ soon) soon)
+    here rest true = ap (λ vs. cond (is_new posted w) (w ∷ vs) vs) rest
+    here rest false = rest
 
     gone : is_new posted w ≡ false → (v : Bool) → fresh (cond v (w ∷ soon) soon) ≡ fresh soon
     gone none true = ap (λ n. cond n (w ∷ fresh soon) (fresh soon)) none

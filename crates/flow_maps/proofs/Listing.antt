@@ -191,7 +191,7 @@ in_time first at q low less = rw (from_first first q (same_or_less first q.0 low
 -- what slots are looked at begins no later than it ends
 pub is_forward : (first at : ℕ) → first ≤ at + 1 → is_gt (slot_cmp (first, 0, 0) (at + 1, 0, 0)) ≡ false
 is_forward first at low = elim (same_or_less first (at + 1) low) [
-  | inl same ↦ rw (sym (nat_cmp_is first (at + 1) Equal same), sym (nat_cmp_is 0 0 Equal refl)) refl
+  | inl same ↦ rw (sym (nat_cmp_is first (at + 1) Equal same)) refl
   | inr less ↦ rw (sym (nat_cmp_is first (at + 1) Less less)) refl
 ]
 

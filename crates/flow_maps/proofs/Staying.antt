@@ -82,7 +82,7 @@ at_most k n Greater is h = let less = ranked k n Greater is in omega (arith, les
 -- the last number is at least as high as each that is known
 none_past : {A : Type 0} (xs : List A) (y : A) (n : ℕ) (z : A) → nth (xs ++ y ∷ []) n ≡ Some z → n ≤ length xs + 1
 none_past xs y zero z at = omega arith
-none_past xs y (suc k) z at = within xs k (sym (nth_at (xs ++ y ∷ []) (suc k) k refl) ∙ at)
+none_past {A = A} xs y (suc k) z at = within xs k (sym (nth_at (xs ++ y ∷ []) (suc k) k refl) ∙ at)
   where
     within : (ws : List A) (j : ℕ) → slice_get (ws ++ y ∷ []) j ≡ Some z → suc j ≤ length ws + 1
     within [] zero at = omega arith
@@ -92,7 +92,7 @@ none_past xs y (suc k) z at = within xs k (sym (nth_at (xs ++ y ∷ []) (suc k) 
 
 nth_before : {A : Type 0} (xs : List A) (y : A) (n : ℕ) → n ≤ length xs → nth (xs ++ y ∷ []) n ≡ nth xs n
 nth_before xs y zero less = refl
-nth_before xs y (suc k) less = nth_at (xs ++ y ∷ []) (suc k) k refl ∙ before xs k less ∙ sym (nth_at xs (suc k) k refl)
+nth_before {A = A} xs y (suc k) less = nth_at (xs ++ y ∷ []) (suc k) k refl ∙ before xs k less ∙ sym (nth_at xs (suc k) k refl)
   where
     before : (ws : List A) (j : ℕ) → suc j ≤ length ws → slice_get (ws ++ y ∷ []) j ≡ slice_get ws j
     before [] j less = absurd (omega (arith, less))

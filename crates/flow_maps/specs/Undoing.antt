@@ -1,5 +1,5 @@
 -- What takes the changes of a book back that were noted: what is known is of the book before them again.
-use Rattle.std.specs.Prelude.{◌≡◌, ◌⊎◌, ◌+◌, ◌-◌, ◌<◌, ◌≤◌, ◌++◌, ◌∷◌, [], ℕ, true, List, Option, Some, None, IfSome, MatchOption, length, slice_set}
+use Rattle.std.specs.Prelude.{◌≡◌, ◌⊎◌, ◌+◌, ◌-◌, ◌<◌, ◌≤◌, ◌++◌, ◌∷◌, [], ℕ, true, List, Some, IfSome, MatchOption, length, slice_set}
 use Rattle.flow_base.specs.Syntax.{Bytes}
 use Rattle.flow_base.specs.declared.event.Event.{Event}
 use Rattle.flow_base.specs.declared.book.Run.{Run}

@@ -1,7 +1,7 @@
 -- A set of names with one more, and the runs that took them.
-use Rattle.std.proofs.Common.{◌≡◌, Bool, true, false, cond, ◌||◌, refl, ◌∙◌, bytes_eq}
+use Rattle.std.proofs.Common.{◌≡◌, Bool, String, true, false, cond, ◌||◌, refl, ◌∙◌, bytes_eq}
 use Rattle.std.specs.HashSet.{HashSet, contains_text, UpdatesBy}
-use Rattle.std.specs.String.{String, string_bytes, string_eq}
+use Rattle.std.specs.String.{string_bytes, string_eq}
 use Rattle.std.proofs.lemmas.Map.Text.{hash_set_updates_text}
 use Rattle.flow_base.specs.Syntax.{Bytes}
 

@@ -13,4 +13,4 @@ returns-clause-made g c fit up were =
     let named : new.items ≡ filter (is_new keys) o.ready = search rules in
     let next : c.since_next.result ≡ since_all (c.args.at + 1) new.items = search rules in
     let none : new.items ≡ [] = none_there new.items (search rules) in
-    draft_is keys c.args.since c.args.at b o new.items _ were (c.in-Some.ensures fit up) named (c.new.ensures ∙ ap (tasks_of b) (sym none)) refl refl next
+    draft_is keys c.args.since c.args.at b o new.items _ were (c.in-Some.ensures.kept fit up) named (c.new.ensures ∙ ap (tasks_of b) (sym none)) refl refl next

@@ -1,4 +1,3 @@
-use Rattle.std.proofs.Common.{refl}
 use Rattle.flow_maps.proofs.Planning.{text_set}
 use Rattle.flow_maps.proofs.maps.change_agenda.Goals as goal
 

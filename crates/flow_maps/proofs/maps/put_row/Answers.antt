@@ -21,4 +21,4 @@ returns-else-was c b x r at before after h =
 pub returns-then-was : goal.returns-then-was
 returns-then-was c b x r at before after h =
     subst (λ ks. Lists c.remove.new.self ks) (sym (keys_set open_key b.runs (c.args.run - 1) r ∙ ap (slice_set (map open_key b.runs) (c.args.run - 1)) (after ∙ ap (λ v. key_if v c.args.flow.now) c.if-is_now.false)))
-    (c.remove.ensures (map open_key b.runs) c.args.run (key_at open_key b.runs c.args.run x at ∙ ap Some (before ∙ ap (λ v. key_if v c.args.flow.now) c.if-was.true ∙ ap Some (sym c.as_str-in-else.ensures.text))) h)
+    (c.remove.ensures (map open_key b.runs) c.args.run (key_at open_key b.runs c.args.run x at ∙ ap Some (before ∙ ap (λ v. key_if v c.args.flow.now) c.if-was.true ∙ ap Some (sym c.as_str-then-was.ensures.text))) h)

@@ -1,4 +1,4 @@
-use Rattle.std.proofs.Common.{rules, ◌≡◌, [], length, ap, sym, subst, ◌∙◌}
+use Rattle.std.proofs.Common.{rules, ◌≡◌, [], length, refl, ap, subst, ◌∙◌}
 use Rattle.flow_model.specs.Checked.{is_program_by}
 use Rattle.flow_rows.specs.declared.rows.StoreRows.{StoreRows}
 use Rattle.flow_rows.specs.Damages.{first_damage}
@@ -19,10 +19,10 @@ returns-clause-first g c =
     let outbox : c.as_slice-4.result.now ≡ rows.outbox = search rules in
     let slice : c.as_slice-5.result.now ≡ rows.events = search rules in
     let same : rows_with lists rows.events ≡ rows = c.lists_of-lists.ensures.rows rows.events ∙ (λ k. record { texts = texts k; runs = runs k; events = rows.events; timers = timers k; outbox = outbox k }) in
-    let count : c.len-count.result ≡ length lists.runs.now = search rules in
-    let es = counted_whole lists c.in_ok-pass.pass.seen c.len-count.result c.as_slice-5.result.now c.in_ok-pass.ensures.none count ∙ slice in
+    let count = length lists.runs.now in
+    let es = counted_whole lists c.in_ok-pass.pass.seen count c.as_slice-5.result.now c.in_ok-pass.ensures.none refl ∙ slice in
     let passed = (c.in_ok-see_block.ensures.passed p [] (begun p lists c.in_ok-pass.pass c.in_ok-pass.ensures)).0 in
-    c.finish-found.ensures.first p (counted c.in_ok-pass.pass.seen c.len-count.result (length lists.runs.now) c.as_slice-5.result.now) passed (c.in_ok-see_block.ensures.to ∙ count)
+    c.finish-found.ensures.first p (counted c.in_ok-pass.pass.seen count (length lists.runs.now) c.as_slice-5.result.now) passed c.in_ok-see_block.ensures.to
     ∙ ap (λ l. first_damage p (rows_with lists l)) es ∙ ap (first_damage p) same
 
 pub returns-clause-seen : goal.returns-clause-seen
@@ -36,11 +36,11 @@ returns-clause-seen g c = λ none start.
     let outbox : c.as_slice-4.result.now ≡ rows.outbox = search rules in
     let slice : c.as_slice-5.result.now ≡ rows.events = search rules in
     let same : rows_with lists rows.events ≡ rows = c.lists_of-lists.ensures.rows rows.events ∙ (λ k. record { texts = texts k; runs = runs k; events = rows.events; timers = timers k; outbox = outbox k }) in
-    let count : c.len-count.result ≡ length lists.runs.now = search rules in
-    let events = counted c.in_ok-pass.pass.seen c.len-count.result (length lists.runs.now) c.as_slice.result.now in
-    let es = counted_whole lists c.in_ok-pass.pass.seen c.len-count.result c.as_slice-5.result.now c.in_ok-pass.ensures.none count ∙ slice in
+    let count = length lists.runs.now in
+    let events = counted c.in_ok-pass.pass.seen count (length lists.runs.now) c.as_slice-5.result.now in
+    let es = counted_whole lists c.in_ok-pass.pass.seen count c.as_slice-5.result.now c.in_ok-pass.ensures.none refl ∙ slice in
     let went = c.in_ok-see_block.ensures.passed p [] (begun p lists c.in_ok-pass.pass c.in_ok-pass.ensures) in
-    let all = c.in_ok-see_block.ensures.to ∙ count in
+    let all = c.in_ok-see_block.ensures.to in
     let given = given_all p lists c.see_block.new.self events went.0 all g.W.Onlooker.seen c.see_block.new.watch
     (went.1 (none_given p lists g.W.Onlooker.seen c.in_ok-pass.pass c.args.watch.now c.in_ok-pass.ensures start))
     (c.finish-found.ensures.clean p events went.0 all none) in

@@ -101,8 +101,8 @@ returns-clause-posts g c =
     posts_still g.S.Store tells new new was then c.skip-2.new.self.posted (later_self g.S.Store new) more (c.skip-2.ensures.skipped.posted ∙ c.skip.ensures.skipped.posted)
 
 -- what the next one may rest on
-pub try_board-2-requires-clause-known : goal.try_board-2-requires-clause-known
-try_board-2-requires-clause-known g c = λ _. c.try_board.ensures.known
+pub try_board-requires-2-clause-known : goal.try_board-requires-2-clause-known
+try_board-requires-2-clause-known g c = λ _. c.try_board.ensures.known
 
 pub returns-clause-known : goal.returns-clause-known
 returns-clause-known g c =

@@ -1,4 +1,4 @@
-use Rattle.std.proofs.Common.{◌≡◌, ◌+◌, ◌++◌, ◌∷◌, [], length, refl, subst}
+use Rattle.std.proofs.Common.{◌≡◌, ◌+◌, length, refl, subst}
 use Rattle.std.specs.Prelude.{IfSome}
 use Rattle.flow_base.specs.declared.book.Change.TheVariants.{AddRun}
 use Rattle.flow_model.specs.Book.{changed, unbegun_run, with_turn}

@@ -42,7 +42,7 @@ returns-in-SetText c =
     let m = c.args.self.now in
     let run = c.in-SetText.run' in
     let f = with_text c.in-SetText.field-1 in
-    rw c.in-SetText.is (some_weaker c.kept_back-2.result
+    rw c.in-SetText.is (some_weaker c.kept_back-in-SetText.result
     (λ u. (b : Book) → (g : Run → Run) → LeavesHistory g → IsSeen m.seen b → IsOf m.agenda b → IsUndo u b (with_run b run g))
     (λ u. (b : Book) → Sees m b → Serves m b → IsUndo u b (with_run b run f))
-    (λ u is b seen h. is b f (record { flow = λ r. refl; request = λ r. refl; history = λ r. refl }) seen.0 h.agenda) c.kept_back-2.ensures)
+    (λ u is b seen h. is b f (record { flow = λ r. refl; request = λ r. refl; history = λ r. refl }) seen.0 h.agenda) c.kept_back-in-SetText.ensures)

@@ -1,5 +1,5 @@
 use Rattle.std.proofs.Common.{◌≡◌, ◌-◌, ap, length, slice_set, subst, sym}
-use Rattle.flow_model.specs.Book.{Book, with_run}
+use Rattle.flow_model.specs.Book.{Book}
 use Rattle.flow_view.specs.declared.head.Head.{Head}
 use Rattle.flow_maps.specs.KnownCalls.{AreWithout}
 use Rattle.flow_maps.proofs.Serving.{run_is}

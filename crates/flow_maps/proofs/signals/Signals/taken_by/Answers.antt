@@ -1,4 +1,4 @@
-use Rattle.std.proofs.Common.{◌≡◌, rules, sym, length, refl, subst, Some, None, inl, inr}
+use Rattle.std.proofs.Common.{◌≡◌, rules, sym, length, refl, subst, inl, inr}
 use Rattle.std.specs.Prelude.{IfSome}
 use Rattle.flow_base.specs.declared.book.Change.TheVariants.{AddTurn}
 use Rattle.flow_model.specs.Book.{Book, changed, signalled}

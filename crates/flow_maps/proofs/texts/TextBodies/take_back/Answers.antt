@@ -1,4 +1,3 @@
-use Rattle.std.proofs.Common.{◌-◌}
 use Rattle.flow_maps.proofs.Staying.{text_less}
 use Rattle.flow_maps.proofs.texts.TextBodies.take_back.Goals as goal
 

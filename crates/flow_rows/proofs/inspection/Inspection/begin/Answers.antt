@@ -3,7 +3,7 @@ use Rattle.flow_rows.proofs.inspection.Inspection.begin.Goals as goal
 
 pub returns : goal.returns
 returns g c = record {
-  count = c.len.ensures;
+  count = refl;
   taken = c.none.ensures;
   met = record {
     texts = c.in_ok-damage.ensures;

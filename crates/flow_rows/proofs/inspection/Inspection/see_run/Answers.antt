@@ -15,15 +15,15 @@ returns-in_ok-given-in-Ok c = λ p g next seen.
     let is : n ≡ c.args.number = search rules in
     let both : (damages_of_history (pos n) (events_of rows.events.now (pos n)) ≡ []) × (c.in-Ok.history ≡ history_of rows.events.now (pos n)) = search rules in
     let first_slice : c.as_slice.result.now ≡ c.in-Ok.history = search rules in
-    let second_slice : c.as_slice-2.result.now ≡ c.in-Ok.history = search rules in
-    let new = inspection_of i.texts c.add.new.self (met_of i.met.texts c.either.result i.met.events c.either-in-Ok.result c.either-in-Ok-2.result) in
+    let second_slice : c.as_slice-in-Ok.result.now ≡ c.in-Ok.history = search rules in
+    let new = inspection_of i.texts c.add.new.self (met_of i.met.texts c.either-self.result i.met.events c.either-self-in-Ok.result c.either-self-in-Ok-2.result) in
     subst (λ k. HasSeen p new (with_run g (part_in k rows)) × GivesRun i new (part_in k rows) c.in_ok-given-in-Ok.given) is
-    (sees_run p i g n (part_in n rows) c.add.new.self c.either.result c.either-in-Ok.result c.either-in-Ok-2.result c.in-Ok.history c.in_ok-given-in-Ok.given
+    (sees_run p i g n (part_in n rows) c.add.new.self c.either-self.result c.either-self-in-Ok.result c.either-self-in-Ok-2.result c.in-Ok.history c.in_ok-given-in-Ok.given
     (is ∙ next) seen (tasks_named (pos n) rows.outbox.now) c.in_ok-add.ensures
-    (c.either.ensures ∙ ap (or_else i.met.runs) (c.run_damage-broken.ensures (rows_before g.runs) seen.taken))
+    (c.either-self.ensures ∙ ap (or_else i.met.runs) (c.run_damage-broken.ensures (rows_before g.runs) seen.taken))
     both.0 both.1
-    (c.either-in-Ok.ensures ∙ ap (or_else i.met.timers) (c.in_ok-timers.ensures ∙ ap (λ h. first_of (timers_differ n (timers_of rows.timers.now (pos n)) h)) (first_slice ∙ both.1)))
-    (c.either-in-Ok-2.ensures ∙ ap (or_else i.met.outbox) (c.in_ok-outbox.ensures ∙ ap (λ h. first_of (tasks_differ n (tasks_of rows.outbox.now (pos n)) h)) (second_slice ∙ both.1)))
+    (c.either-self-in-Ok.ensures ∙ ap (or_else i.met.timers) (c.in_ok-timers-in-Ok.ensures ∙ ap (λ h. first_of (timers_differ n (timers_of rows.timers.now (pos n)) h)) (first_slice ∙ both.1)))
+    (c.either-self-in-Ok-2.ensures ∙ ap (or_else i.met.outbox) (c.in_ok-outbox-in-Ok.ensures ∙ ap (λ h. first_of (tasks_differ n (tasks_of rows.outbox.now (pos n)) h)) (second_slice ∙ both.1)))
     (c.in_ok-given-in-Ok.ensures ∙ ap (λ m. told_where m (part_in n rows) c.in-Ok.history) c.first.ensures))
 
 pub returns-in-Err : goal.returns-in-Err
@@ -33,9 +33,9 @@ returns-in-Err c = λ p g next seen.
     let n = c.get-n.result in
     let is : n ≡ c.args.number = search rules in
     let one : first_of (damages_of_history (pos n) (events_of rows.events.now (pos n))) ≡ Some c.in-Err.found = search rules in
-    let new = inspection_of i.texts c.add.new.self (met_of i.met.texts c.either.result c.either-in-Err.result i.met.timers i.met.outbox) in
+    let new = inspection_of i.texts c.add.new.self (met_of i.met.texts c.either-self.result c.either-self-in-Err.result i.met.timers i.met.outbox) in
     subst (λ k. HasSeen p new (with_run g (part_in k rows)) × GivesRun i new (part_in k rows) None) is
-    (sees_damage p i g n (part_in n rows) c.add.new.self c.either.result c.either-in-Err.result c.in-Err.found
+    (sees_damage p i g n (part_in n rows) c.add.new.self c.either-self.result c.either-self-in-Err.result c.in-Err.found
     (is ∙ next) seen c.in_ok-add.ensures
-    (c.either.ensures ∙ ap (or_else i.met.runs) (c.run_damage-broken.ensures (rows_before g.runs) seen.taken))
-    one c.either-in-Err.ensures)
+    (c.either-self.ensures ∙ ap (or_else i.met.runs) (c.run_damage-broken.ensures (rows_before g.runs) seen.taken))
+    one c.either-self-in-Err.ensures)
