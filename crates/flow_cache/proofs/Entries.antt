@@ -127,17 +127,18 @@ behind_it x y xs c = let within = c.1 in (suc c.0, omega (arith, within), c.2)
 -- an entry is the one that was found, or one of those that are left without it
 left_without : (run : ℕ) (x : Entry) (e : ℕ × Entry) (es : Entries) → entry_of run es ≡ Some x → Contains es e → (e ≡ (run, x)) ⊎ Contains (remove_entry (nat_eq run) es) e
 left_without run x e [] is c = absurd (none_there e c)
-left_without run x e (f ∷ es) is c = by (nat_eq run f.0) refl is (Contains-cons f es e c)
+left_without run x e (f ∷ es) is c = by (nat_eq run f.0) refl is (Contains-cons f es e c) (left_without run x e es)
   where
     later : (e ≡ (run, x)) ⊎ Contains (remove_entry (nat_eq run) es) e → (e ≡ (run, x)) ⊎ Contains (f ∷ remove_entry (nat_eq run) es) e
     later (inl same) = inl same
     later (inr there) = inr (behind_it e f (remove_entry (nat_eq run) es) there)
 
-    by : (v : Bool) → nat_eq run f.0 ≡ v → cond v (Some f.1) (entry_of run es) ≡ Some x → (f ≡ e) ⊎ Contains es e → (e ≡ (run, x)) ⊎ Contains (cond v es (f ∷ remove_entry (nat_eq run) es)) e
-    by true own at (inl same) = let number = eqb-true run f.0 own in let entry = same_Some at in inl (sym same ∙ (λ i. (sym number i, entry i)))
-    by true own at (inr below) = inr below
-    by false other at (inl same) = inr (subst (λ (y : ℕ × Entry). Contains (f ∷ remove_entry (nat_eq run) es) y) same (in_front f (remove_entry (nat_eq run) es)))
-    by false other at (inr below) = later (left_without run x e es at below)
+    by : (v : Bool) → nat_eq run f.0 ≡ v → cond v (Some f.1) (entry_of run es) ≡ Some x → (f ≡ e) ⊎ Contains es e
+        → (entry_of run es ≡ Some x → Contains es e → (e ≡ (run, x)) ⊎ Contains (remove_entry (nat_eq run) es) e) → (e ≡ (run, x)) ⊎ Contains (cond v es (f ∷ remove_entry (nat_eq run) es)) e
+    by true own at (inl same) rest = let number = eqb-true run f.0 own in let entry = same_Some at in inl (sym same ∙ (λ i. (sym number i, entry i)))
+    by true own at (inr below) rest = inr below
+    by false other at (inl same) rest = inr (subst (λ (y : ℕ × Entry). Contains (f ∷ remove_entry (nat_eq run) es) y) same (in_front f (remove_entry (nat_eq run) es)))
+    by false other at (inr below) rest = later (rest at below)
 
 used_keep : (run : ℕ) (es : Entries) (o : Option Entry) → entry_of run es ≡ o → (e : ℕ × Entry) → Contains es e → Contains (used_by o run es) e
 used_keep run es None is e c = c

@@ -1,7 +1,7 @@
 -- What a board needn't look at: what becomes of it by a change, and behind a board.
-use Rattle.std.proofs.Common.{◌≡◌, ◌⊎◌, inl, inr, ◌≤◌, ◌<◌, ◌+◌, ℕ, zero, suc, Bool, true, false, cond, ◌&&◌, not, List, [], ◌∷◌, ◌++◌, length, filter, map, Option, Some, None, slice_set, ◌-◌, refl, sym, ap, ◌∙◌, subst, arith, true≢false}
+use Rattle.std.proofs.Common.{◌≡◌, ◌⊎◌, inl, inr, ◌≤◌, ◌<◌, ◌+◌, ℕ, suc, Bool, true, false, cond, ◌&&◌, not, List, [], ◌∷◌, ◌++◌, length, filter, map, Option, Some, None, slice_set, ◌-◌, refl, sym, ap, ◌∙◌, subst, arith, true≢false}
 use Rattle.std.specs.Prelude.{nat_eq, nat_le, nat_lt, if◌then◌else◌}
-use Rattle.std.proofs.lemmas.Bool.{cases_Bool, leb-true, leb-false, ltb-true, ltb-false}
+use Rattle.std.proofs.lemmas.Bool.{cases_Bool, leb-false, ltb-true, ltb-false}
 use Rattle.sqlite_trees.specs.declared.store.Store.{Ghosts}
 use Rattle.flow_base.specs.Keys.{Key}
 use Rattle.flow_base.specs.declared.book.Change.{Change}
@@ -29,8 +29,8 @@ use Rattle.flow_maps.specs.declared.outlook.BookWaits.{BookWaits}
 use Rattle.flow_maps.proofs.Planning.{at_more, at_set}
 use Rattle.flow_maps.proofs.Slots.{run_is}
 use Rattle.flow_maps.proofs.Sooner.{at_waits, waits_at}
-use Rattle.flow_tables.specs.Owned.{Stored, IsFit, IsUp, Follows, Keeps, book_now, kept_book, state_of}
-use Rattle.flow_commit.specs.Boards.{AllWerePosted, AreAmong, WerePosted, draft_of, is_new, is_posted, ready_tasks, since_all, since_changed, since_changes, since_next, since_one, sooner_of, tasks_of as tasks_in}
+use Rattle.flow_tables.specs.Owned.{Stored, IsFit, IsUp, Follows, Keeps, kept_book, state_of}
+use Rattle.flow_commit.specs.Boards.{AllWerePosted, AreAmong, WerePosted, draft_of, is_new, is_posted, since_all, since_changed, since_changes, since_next, since_one, sooner_of, tasks_of as tasks_in}
 use Rattle.flow_commit.specs.Looking.{HasLooked, IfKept}
 use Rattle.flow_commit.specs.declared.transaction.End.{End}
 use Rattle.flow_commit.specs.declared.transaction.End.TheVariants as end

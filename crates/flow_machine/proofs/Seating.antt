@@ -124,8 +124,8 @@ pub alike_as : (run : ℕ) (old new : Kept) → new ≡ record { entries = used 
 alike_as run old new is = subst (λ (k : Kept). AreAlike old.entries k.entries) (sym is) (within_used run old.entries, used_keeps run old.entries)
 
 -- and so by several calls
-pub alike_on : {a b c : Entries} → AreAlike a b → AreAlike b c → AreAlike a c
-alike_on one two = (λ e there. one.0 e (two.0 e there), λ e there. two.1 e (one.1 e there))
+pub alike_on : (old mid new : Seats) → KeepsAlike old mid → KeepsAlike mid new → KeepsAlike old new
+alike_on old mid new one two = (λ e there. one.0 e (two.0 e there), λ e there. two.1 e (one.1 e there))
 
 -- of a list whose entries were there before, or stand in a list, one more from that list is kept
 pub one_kept : (base : Entries) (ls : List Led) (old new : Kept) (l : Led) → ((e : ℕ × Entry) → Contains old.entries e → WasThere base ls e) → Contains ls l → KeepsOne old l new → (e : ℕ × Entry) → Contains new.entries e → WasThere base ls e

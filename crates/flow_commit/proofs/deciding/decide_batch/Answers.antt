@@ -38,7 +38,10 @@ returns-in_err-reply-clause-cause g c = λ a follows now first fits.
     (c.in_err-reply.ensures.cause a (c.loop-taken.invariant.follows a follows) now sure (c.loop-taken.invariant.fit sure fits)))
 
 pub returns-in_err-push-clause-alike : goal.returns-in_err-push-clause-alike
-returns-in_err-push-clause-alike g c = alike_on c.loop-taken.invariant.alike c.decide.ensures.alike
+returns-in_err-push-clause-alike g c = alike_on c.args.seats.now c.loop-taken.seats c.decide.new.seats c.loop-taken.invariant.alike c.decide.ensures.alike
+
+pub returns-in_err-reply-clause-alike : goal.returns-in_err-reply-clause-alike
+returns-in_err-reply-clause-alike g c = alike_on c.args.seats.now c.loop-taken.seats c.decide.new.seats c.loop-taken.invariant.alike c.decide.ensures.alike
 
 pub loop-taken-preserved : goal.loop-taken-preserved
 loop-taken-preserved g c =
@@ -69,9 +72,9 @@ loop-taken-preserved g c =
       fit = λ sure fit. c.in_ok-reply.ensures.fit sure (was.fit (sure_at sure) fit);
       since = λ sure fit posted were.
           let decides = c.in_ok-reply.ensures.decides sure (was.fit (sure_at sure) fit) in
-          let next : c.since_changes-since.result ≡ since_changes c.loop-taken.since changes = search rules in
-          were_decided posted at new reply changes (outcome the_rules at taken.command) c.loop-taken.since c.since_changes-since.result decides next (was.since (sure_at sure) fit posted were);
-      alike = alike_on was.alike c.decide.ensures.alike;
+          let next : c.since_changes.result ≡ since_changes c.loop-taken.since changes = search rules in
+          were_decided posted at new reply changes (outcome the_rules at taken.command) c.loop-taken.since c.since_changes.result decides next (was.since (sure_at sure) fit posted were);
+      alike = alike_on c.args.seats.now c.loop-taken.seats c.decide.new.seats was.alike c.decide.ensures.alike;
       counted = omega (arith, many, shorter, counted);
       stuck = λ sure fit h. was.stuck (sure_at sure) fit (stuck_on the_rules at new left taken.command rest cut reply changes (c.in_ok-reply.ensures.decides sure (was.fit (sure_at sure) fit)) h);
       unfit = λ sure fit h. was.unfit (sure_at sure) fit (unfit_on the_rules at new left taken.command rest cut reply changes (c.in_ok-reply.ensures.decides sure (was.fit (sure_at sure) fit)) g.V.View.unfit h);

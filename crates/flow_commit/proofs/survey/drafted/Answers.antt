@@ -1,5 +1,5 @@
-use Rattle.std.proofs.Common.{◌≡◌, inl, inr, ap, sym, subst, ◌∙◌}
-use Rattle.flow_tables.specs.Owned.{kept_book}
+use Rattle.std.proofs.Common.{inr, ap, sym, subst, ◌∙◌}
+use Rattle.flow_tables.specs.Owned.{IsFit, kept_book}
 use Rattle.flow_commit.specs.Boards.{AllWerePosted, draft_of}
 use Rattle.flow_commit.proofs.Following.{fit_before, follows_self, up_before}
 use Rattle.flow_commit.proofs.Ends.{done_on, caused_on}
@@ -12,7 +12,7 @@ survey-requires g c = record {
   looked = λ sure.
       let old = c.args.tables.now in
       let begun = c.begin_anew.new.tables in
-      let fit = (sure.fit, sure.clean) in
+      let fit : IsFit g.S.Store begun = (sure.fit, sure.clean) in
       let was = fit_before g.S.Store old begun c.begin_anew.ensures.follows fit in
       let was_up = up_before g.S.Store old begun c.begin_anew.ensures.follows fit (c.in_default.ensures.up fit) in
       let first = kept_book g.S.Store old in

@@ -1,4 +1,4 @@
-use Rattle.std.proofs.Common.{subst, ap, ◌∙◌, sym}
+use Rattle.std.proofs.Common.{ap, ◌∙◌}
 use Rattle.flow_tables.specs.Owned.{kept_book}
 use Rattle.flow_commit.specs.Boards.{draft_of}
 use Rattle.flow_commit.proofs.Following.{follows_self}

@@ -1,4 +1,4 @@
-use Rattle.std.proofs.Common.{◌≡◌, ◌∙◌}
+use Rattle.std.proofs.Common.{◌∙◌}
 use Rattle.flow_commit.proofs.Following.{fit_before, follows_then, keeps_behind}
 use Rattle.flow_commit.proofs.Ends.{caused_on, fault_on}
 use Rattle.flow_commit.proofs.Sealing.{ok_one, follows_sealed, failed_after, down_on}

@@ -36,7 +36,7 @@ loop-number-preserved g c =
           (pushed ∙ ap (λ l. before ++ l) (sym one));
       stuck = λ h. was.stuck (subst (StuckIn m old) (sym cut) (inr h));
       ahead = c.told.ensures.ahead ∙ was.ahead;
-      alike = alike_on was.alike c.told.ensures.alike;
+      alike = alike_on c.args.seats.now c.loop-number.seats c.told.new.seats was.alike c.told.ensures.alike;
       goes_on = λ now first. c.in_ok-run.ensures.called.goes_on now (was.goes_on (c.told.ensures.called.was_true now) first);
       sure = λ sure. was.sure (sure_at sure);
       was_true = λ now. was.was_true (c.told.ensures.called.was_true now);
@@ -71,7 +71,7 @@ returns-in_err-run-clause-cause g c = λ a follows now first.
     rw (p.1, p.2) (caused_by c.in_err-run.field-0.0 (Refuses ⊎ Stuck) (Refuses ⊎ StuckWithin) (other_side Refuses Stuck StuckWithin stuck) (c.in_err-run.ensures.called.cause a (was.follows a follows) now sure))
 
 pub returns-in_err-run-clause-alike : goal.returns-in_err-run-clause-alike
-returns-in_err-run-clause-alike g c = alike_on c.loop-number.invariant.alike c.told.ensures.alike
+returns-in_err-run-clause-alike g c = alike_on c.args.seats.now c.loop-number.seats c.told.new.seats c.loop-number.invariant.alike c.told.ensures.alike
 
 pub returns-in_err-push-clause-alike : goal.returns-in_err-push-clause-alike
-returns-in_err-push-clause-alike g c = alike_on c.loop-number.invariant.alike c.told.ensures.alike
+returns-in_err-push-clause-alike g c = alike_on c.args.seats.now c.loop-number.seats c.told.new.seats c.loop-number.invariant.alike c.told.ensures.alike

@@ -8,6 +8,7 @@ use Rattle.flow_machine.proofs.Causes.{caused_by}
 use Rattle.flow_machine.proofs.Sticking.{other_sides}
 use Rattle.flow_machine.proofs.Taking.{fit_over}
 use Rattle.flow_machine.proofs.TicksDecide.{none_left, none_fires, one_fires, stuck_first, stuck_later, unfit_first, unfit_later}
+use Rattle.flow_machine.proofs.Seating.{alike_on}
 use Rattle.flow_machine.proofs.tick.+fire_due.Goals as goal
 
 pub returns-then-left-eq0-clause-fires : goal.returns-then-left-eq0-clause-fires
@@ -94,3 +95,9 @@ returns-in_err-more-clause-cause g t c = λ a follows now first fit.
     let p = err_from_is_err_and c.from_residual-in_err-more.result c.from_residual-in_err-more.ensures.1 in
     rw (p.1, p.2) (caused_by c.in_err-more.field-0.0 (Refuses ⊎ (Stuck ⊎ Unfit)) (Refuses ⊎ (StuckWithin ⊎ UnfitWithin)) (other_sides Refuses Stuck StuckWithin Unfit UnfitWithin stuck unfit)
     (c.in_err-more.ensures.cause a (c.fire.ensures.kept.follows a (c.least_due.ensures.follows a follows)) now later (c.in_ok-fire.ensures.fit later over)))
+
+pub returns-in_err-more-clause-alike : goal.returns-in_err-more-clause-alike
+returns-in_err-more-clause-alike g t c = alike_on c.args.seats.now c.fire.new.seats c.fire_due.new.seats c.fire.ensures.alike c.fire_due.ensures.alike
+
+pub returns-clause-alike : goal.returns-clause-alike
+returns-clause-alike g t c = alike_on c.args.seats.now c.fire.new.seats c.fire_due.new.seats c.fire.ensures.alike c.fire_due.ensures.alike

@@ -1,9 +1,10 @@
 use Rattle.std.specs.Prelude.{◌≡◌}
 use Rattle.flow_sql.specs.Stored.{AreUtf8}
-use Rattle.flow_tables.proofs.Names.{first_damage, by_run, Tells, WholeBook, shown_book, state, false, MatchResult, None, Some, refl, subst, ◌∙◌, sym, ap, inl, inr}
+use Rattle.flow_tables.proofs.Names.{first_damage, by_run, Tells, shown_book, state, false, MatchResult, None, Some, refl, subst, ◌∙◌, sym, ap, inl, inr}
 use Rattle.flow_base.specs.declared.fault.Damage.{Damage}
 use Rattle.flow_model.specs.Checked.{is_program_by}
 use Rattle.flow_rows.specs.Rows.{Two}
+use Rattle.flow_rows.specs.declared.book.WholeBook.{WholeBook}
 use Rattle.flow_rows.specs.Told.{book_in}
 use Rattle.flow_rows.proofs.WholeBooks.{stands_so, tells_so}
 use Rattle.std.specs.Prelude.{Result}
