@@ -59,7 +59,7 @@ pub(crate) struct State<B: Room> {
     codes: u64,
     /// Tasks that were posted and not given out.
     tasks: VecDeque<Task>,
-    /// Whether somebody rang for whoever gives tasks out. No contract speaks of it.
+    /// Whether somebody rang for whoever gives tasks out, and wasn't heard yet.
     rung: bool,
     tickets: Book<B>,
     /// The ledger's parts of the submitters that were not given yet.
@@ -83,9 +83,9 @@ impl<B: Room> Model for State<B> {
 
     ghost coded = { hall_code };
 
-    ghost view = { λ s. record { known = s.known; waiting = s.waiting.items; answered = s.answered.items; refused = s.refused.items; given = s.given; shares = s.tickets.total; tasks = s.tasks.items } };
+    ghost view = { λ s. record { known = s.known; waiting = s.waiting.items; answered = s.answered.items; refused = s.refused.items; given = s.given; shares = s.tickets.total; tasks = s.tasks.items; rung = s.rung } };
 
-    ghost invariant = { λ s. IsSound (record { known = s.known; waiting = s.waiting.items; answered = s.answered.items; refused = s.refused.items; given = s.given; shares = s.tickets.total; tasks = s.tasks.items })
+    ghost invariant = { λ s. IsSound (record { known = s.known; waiting = s.waiting.items; answered = s.answered.items; refused = s.refused.items; given = s.given; shares = s.tickets.total; tasks = s.tasks.items; rung = s.rung })
         × (s.held ≡ length s.known.held) × (s.places ≡ length s.known.history) × (s.codes ≡ length s.known.refused)
         × (1024 ≤ deque_capacity s.waiting) × (1024 ≤ vec_capacity s.answered) × (1024 ≤ vec_capacity s.refused)
         × (deque_len s.waiting + s.held + vec_len s.answered + vec_len s.refused ≤ 1024) × (s.given ≤ 2 ^ 62)
@@ -104,7 +104,7 @@ impl<B: Room> State<B> {
         requires share { (named.share.parts ≡ 2 ^ 62) × (named.share.amount ≡ 0) }
         requires parts { B.parts ≡ 2 ^ 62 }
         ensures seat { IfOk result (λ r. r.2 ≡ seeing true false 0 nothing) }
-        ensures empty { IfOk result (λ r. r.1 ≡ record { known = nothing; waiting = []; answered = []; refused = []; given = 0; shares = 0; tasks = [] }) }
+        ensures empty { IfOk result (λ r. r.1 ≡ record { known = nothing; waiting = []; answered = []; refused = []; given = 0; shares = 0; tasks = []; rung = false }) }
     {
         let Named {
             seats,

@@ -1,7 +1,7 @@
 //! What the locked state does with boards and with the tasks that are posted.
 ghost use Rattle.std.specs.Prelude.{◌≡◌, ◌⊎◌, false, true, ◌∷◌, ◌++◌, length, IfSome, IfErr, IfNone, IsErr, OnOk, OnErr, MatchOption, None, Some, IsTrue};
 ghost use mathlib.Core.List.{IsPrefix};
-ghost use Rattle.flow_hub.specs.Halls.{posted_on, skipped, gave};
+ghost use Rattle.flow_hub.specs.Halls.{posted_on, skipped, gave, rings, hears, looks};
 ghost use Rattle.flow_hub.specs.Knowing.{IsBefore, IsSamePart, answered_in, nothing};
 ghost use Rattle.flow_queues.specs.Posting.{HasKeys, IsOnce};
 ghost use Rattle.flow_hub.specs.Publishing.{HasPosted, HasSkipped};
@@ -103,14 +103,15 @@ impl<B: Room> State<B> {
 
     /// Somebody has something else for whoever gives tasks out.
     pub(crate) fn ring(&mut self)
-        ensures { self.new ≡ self.old }
+        ensures { self.new ≡ rings self.old }
     {
         self.rung = true;
     }
 
     /// Whether somebody rang since this was asked last.
     pub(crate) fn was_rung(&mut self) -> bool
-        ensures { self.new ≡ self.old }
+        ensures rung { result ≡ self.old.rung }
+        ensures heard { self.new ≡ hears self.old }
     {
         let rung = self.rung;
         self.rung = false;
@@ -126,7 +127,7 @@ impl<B: Room> State<B> {
 
     /// Whether that has come with which a wait for a task may end.
     pub(crate) fn has_come(&mut self, until: Until) -> bool
-        ensures same { self.new ≡ self.old }
+        ensures looks { self.new ≡ looks until self.old }
         ensures come { result ≡ true → HasCome until self.old.known }
         ensures awaited { result ≡ false → IsAwaited until self.old.known }
     {
