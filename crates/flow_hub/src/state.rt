@@ -486,8 +486,8 @@ impl<B: Room> State<B> {
         (me, Some(settled))
     }
 
-    /// What waits is still taken, nothing more is taken in, and all who wait are to be woken. Whoever closes must have the right to: else each call that may answer
-    /// that the hub is closed could close it first.
+    /// What waits is still taken, nothing more is taken in, and all who wait are to be woken. Whoever closes must have the right to: else
+    /// each call that may answer that the hub is closed could close it first.
     pub(crate) fn close(
         &mut self,
         seats: &HubTable<B>,
