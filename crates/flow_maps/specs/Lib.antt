@@ -14,3 +14,4 @@ pub mod Signals
 pub mod Timers
 pub mod Turned
 pub mod Undoing
+pub mod Told

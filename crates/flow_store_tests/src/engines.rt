@@ -12,6 +12,7 @@ use flow_lines::batch::BatchSize;
 use flow_lines::drive::drive_lines;
 use flow_lines::streams::{Reading, Writing};
 use flow_model::answer::{Answer, Stop};
+use flow_recover::positions::Position;
 use flow_settings::settings::Settings;
 use sqlite::{Alter, Connection};
 use std::alloc::Global;
@@ -220,15 +221,20 @@ fn lines_end<S: Alter>(
     }
 }
 
-fn finds<S: Alter>(alloc: Global, engine: &mut Engine<S>, runs: &[u64], calls: &[Call]) -> bool {
-    are_waiting(engine.found(), runs)
-        && answers(alloc, engine, calls, Want::Kept)
-        && are_waiting(engine.found(), runs)
+fn finds<S: Alter>(
+    alloc: Global,
+    engine: &mut Engine<S>,
+    found: &[Position],
+    runs: &[u64],
+    calls: &[Call],
+) -> bool {
+    are_waiting(found, runs) && answers(alloc, engine, calls, Want::Kept)
 }
 
 fn is_answered_so<S: Alter>(
     alloc: Global,
     engine: &mut Engine<S>,
+    found: &[Position],
     asking: Asking,
     out: &mut Vec<u8>,
 ) -> bool {
@@ -239,7 +245,7 @@ fn is_answered_so<S: Alter>(
         }
         Asking::Drives(calls, more, told) => drives(alloc, engine, calls, more, Want::Told(told)),
         Asking::Lines(size, lines, status) => lines_end(alloc, engine, lines, size, status, out),
-        Asking::Finds(runs, calls) => finds(alloc, engine, runs, calls),
+        Asking::Finds(runs, calls) => finds(alloc, engine, found, runs, calls),
         Asking::Verifies(calls, want, verdict) => {
             answers(alloc, engine, calls, want) && is_reported(engine, verdict)
         }
@@ -254,10 +260,10 @@ pub fn answers_so<S: Alter>(
     asking: Asking,
     out: &mut Vec<u8>,
 ) -> (bool, Connection<S>) {
-    match Engine::open(alloc, conn, settings) {
-        Ok(engine) => {
+    match Engine::open_found(alloc, conn, settings) {
+        Ok((engine, found)) => {
             let mut engine = engine;
-            let is = is_answered_so(alloc, &mut engine, asking, out);
+            let is = is_answered_so(alloc, &mut engine, found.as_slice(), asking, out);
             (is, engine.close())
         }
         Err((_fault, conn)) => (false, conn),
