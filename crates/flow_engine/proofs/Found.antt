@@ -19,6 +19,12 @@ module _ {S : Type 0} (g : Ghosts S) where
       let its = recovered fit in
       record { book = k.found; found = subst (λ (h : Held S). IsFound (state g h) k.found) (sym opened) its.found; are = its.positions }
 
+  -- They are of the opening, which no command changes.
+  pub found_on : (old new : Keeping S) (qs : List Position) → new.stored.opened ≡ old.stored.opened → (IsFit g new → IsFit g old) → (IsFit g old → HasFound g old qs) → IsFit g new → HasFound g new qs
+  found_on old new qs same fit has now =
+      let its = has (fit now) in
+      record { book = its.book; found = subst (λ (h : Held S). IsFound (state g h) its.book) (sym same) its.found; are = its.are }
+
   -- a store holds one book
   pub found_of : (k : Keeping S) (qs : List Position) (b : Book) → HasFound g k qs → IsFound (state g k.stored.opened) b → ArePositions meaning_of b qs
   found_of k qs b has is = subst (λ x. ArePositions meaning_of x qs) (one_found (state g k.stored.opened) has.book b has.found is) has.are

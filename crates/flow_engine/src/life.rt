@@ -31,7 +31,7 @@ fn driven<S: Alter>(
     }
 }
 
-/// Opens an engine over a store, with where its runs stand, and drives batches: a life, since these calls say all that the
+/// Opens an engine over a store, asks it where its runs stand, and drives batches: a life, since these calls say all that the
 /// headline asks of one.
 ///
 /// # Failure
@@ -45,9 +45,9 @@ pub fn live<S: Alter>(
     ensures lived { IfOk result (λ r. HasCleanDisk (state_of S.Store r.0.stored) → HasLived S.Store conn r.0 batches.items r.1.items) }
     ensures early { IfErr result (λ e. HasCleanDisk (state S.Store e.1) → HasEndedEarly S.Store conn e.0 e.1) }
 {
-    match Engine::open_found(alloc, conn, settings) {
-        Ok((engine, positions)) => {
-            drop(positions);
+    match Engine::open(alloc, conn, settings) {
+        Ok(engine) => {
+            let _found = engine.found();
             match driven(engine, batches) {
                 Ok((last, dones)) => Ok((last, dones)),
                 Err((fault, left)) => Err((fault, left)),

@@ -39,7 +39,7 @@ fn served<S: Alter, B: Room, R: Wait + time::Clock, C: Clock>(
     (engine, outcome)
 }
 
-/// Opens an engine over a store, with where its runs stand, and serves a hub to whose publisher nothing is known yet: a life, since
+/// Opens an engine over a store, asks it where its runs stand, and serves a hub to whose publisher nothing is known yet: a life, since
 /// these calls say all that the headline asks of one. The receipts that the hub is told are those of this life.
 ///
 /// # Failure
@@ -62,9 +62,9 @@ pub fn live<S: Alter, B: Room, R: Wait + time::Clock, C: Clock>(
     ensures closes { IfOk result (λ r. IfErr r.1 (λ _. publisher.new.ended ≡ true)) }
     ensures early { IfErr result (λ e. HasCleanDisk (state S.Store e.1) → IsLife S.Store (Refused conn e.0 e.1)) }
 {
-    match Engine::open_found(alloc, conn, settings) {
-        Ok((engine, positions)) => {
-            drop(positions);
+    match Engine::open(alloc, conn, settings) {
+        Ok(engine) => {
+            let _found = engine.found();
             Ok(served(engine, rt, publisher, clock, most))
         }
         Err((fault, conn)) => Err((fault, conn)),

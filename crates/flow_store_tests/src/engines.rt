@@ -12,7 +12,6 @@ use flow_lines::batch::BatchSize;
 use flow_lines::drive::drive_lines;
 use flow_lines::streams::{Reading, Writing};
 use flow_model::answer::{Answer, Stop};
-use flow_recover::positions::Position;
 use flow_settings::settings::Settings;
 use sqlite::{Alter, Connection};
 use std::alloc::Global;
@@ -221,20 +220,15 @@ fn lines_end<S: Alter>(
     }
 }
 
-fn finds<S: Alter>(
-    alloc: Global,
-    engine: &mut Engine<S>,
-    found: &[Position],
-    runs: &[u64],
-    calls: &[Call],
-) -> bool {
-    are_waiting(found, runs) && answers(alloc, engine, calls, Want::Kept)
+fn finds<S: Alter>(alloc: Global, engine: &mut Engine<S>, runs: &[u64], calls: &[Call]) -> bool {
+    are_waiting(engine.found(), runs)
+        && answers(alloc, engine, calls, Want::Kept)
+        && are_waiting(engine.found(), runs)
 }
 
 fn is_answered_so<S: Alter>(
     alloc: Global,
     engine: &mut Engine<S>,
-    found: &[Position],
     asking: Asking,
     out: &mut Vec<u8>,
 ) -> bool {
@@ -245,7 +239,7 @@ fn is_answered_so<S: Alter>(
         }
         Asking::Drives(calls, more, told) => drives(alloc, engine, calls, more, Want::Told(told)),
         Asking::Lines(size, lines, status) => lines_end(alloc, engine, lines, size, status, out),
-        Asking::Finds(runs, calls) => finds(alloc, engine, found, runs, calls),
+        Asking::Finds(runs, calls) => finds(alloc, engine, runs, calls),
         Asking::Verifies(calls, want, verdict) => {
             answers(alloc, engine, calls, want) && is_reported(engine, verdict)
         }
@@ -260,10 +254,10 @@ pub fn answers_so<S: Alter>(
     asking: Asking,
     out: &mut Vec<u8>,
 ) -> (bool, Connection<S>) {
-    match Engine::open_found(alloc, conn, settings) {
-        Ok((engine, found)) => {
+    match Engine::open(alloc, conn, settings) {
+        Ok(engine) => {
             let mut engine = engine;
-            let is = is_answered_so(alloc, &mut engine, found.as_slice(), asking, out);
+            let is = is_answered_so(alloc, &mut engine, asking, out);
             (is, engine.close())
         }
         Err((_fault, conn)) => (false, conn),

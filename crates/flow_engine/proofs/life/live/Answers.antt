@@ -7,8 +7,8 @@ use Rattle.flow_engine.proofs.life.live.Goals as goal
 pub returns-in-Ok-driven-clause-lived : goal.returns-in-Ok-driven-clause-lived
 returns-in-Ok-driven-clause-lived g c clean = record {
   first = c.in-Ok.engine;
-  positions = c.in-Ok.positions.items;
-  is = (clean, c.in-Ok.ensures.says.opens, c.in-Ok.ensures.found, c.in-Ok-driven.ensures.runs);
+  positions = c.found-found.result.now;
+  is = (clean, c.in-Ok.ensures.opens, c.found-found.ensures.found, c.in-Ok-driven.ensures.runs);
 }
 
 -- Memory was wanting before the first batch: nothing was driven.
@@ -24,11 +24,11 @@ returns-in-Err-driven-clause-early g c clean =
         sym early.1,
         record {
           first = first;
-          positions = c.in-Ok.positions.items;
-          is = (was, c.in-Ok.ensures.says.opens, c.in-Ok.ensures.found, runs_none g.S.Store first);
+          positions = c.found-found.result.now;
+          is = (was, c.in-Ok.ensures.opens, c.found-found.ensures.found, runs_none g.S.Store first);
         },
       ),
     )
 
 pub returns-in-Err-clause-early : goal.returns-in-Err-clause-early
-returns-in-Err-clause-early g c clean = inl (clean, c.in-Err.ensures.says.refused)
+returns-in-Err-clause-early g c clean = inl (clean, c.in-Err.ensures.refused)
