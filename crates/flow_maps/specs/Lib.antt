@@ -8,10 +8,10 @@ pub mod KnownRecords
 pub mod KnownTexts
 pub mod Names
 pub mod OfRuns
+pub mod OpenOutlines
 pub mod Outlooks
 pub mod Serving
 pub mod Signals
 pub mod Timers
 pub mod Turned
 pub mod Undoing
-pub mod Told

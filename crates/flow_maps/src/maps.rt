@@ -19,7 +19,7 @@ ghost use Rattle.flow_maps.specs.declared.signals.SignalTaken.TheVariants.{NoSig
 ghost use Rattle.flow_maps.specs.Serving.{Serves, Sees, IsSeen, IsRead, AreKeys, AreRunKeys, Awaits, HasSignals, HasRecords, open_key, request_key, key_if, named};
 ghost use Rattle.flow_view.specs.Heads.{head_at, head_of, event_at};
 ghost use Rattle.flow_view.specs.Outlines.{outline_at};
-ghost use Rattle.flow_maps.specs.Told.{made_open};
+ghost use Rattle.flow_maps.specs.OpenOutlines.{made_open};
 
 use crate::agenda::Agenda;
 use crate::heads::{copied, copied_request};

@@ -14,7 +14,7 @@ use Rattle.flow_view.specs.Outlines.{outline_at, outline_if, outline_of}
 use Rattle.flow_view.specs.declared.head.Head.{Head}
 use Rattle.flow_view.specs.declared.outline.Outline.{Outline}
 use Rattle.flow_maps.specs.Timers.{of_run, timers_at, timers_of}
-use Rattle.flow_maps.specs.Told.{made_open}
+use Rattle.flow_maps.specs.OpenOutlines.{made_open}
 
 never : false ≡ true → ⊥
 never is = let same = is in cc
@@ -30,8 +30,8 @@ open_state Terminated is = absurd (never is)
 abbrev made : Head → State → List Timer → Outline
 made h q ts = record { head = h; state = q; timers = ts }
 
-pub told_stands : (b : Book) (run : ℕ) (h : Head) (s : Outline) → Some h ≡ head_at b.runs run → h.is_open ≡ true → s.timers ≡ timers_at b run → s ≡ made_open h s.timers → Some s ≡ outline_at b.runs run
-told_stands b run h s there opened timers is = by (nth b.runs run) there timers
+pub known_stands : (b : Book) (run : ℕ) (h : Head) (s : Outline) → Some h ≡ head_at b.runs run → h.is_open ≡ true → s.timers ≡ timers_at b run → s ≡ made_open h s.timers → Some s ≡ outline_at b.runs run
+known_stands b run h s there opened timers is = by (nth b.runs run) there timers
   where
     by : (o : Option Run) → Some h ≡ head_if o → s.timers ≡ of_run timers_of o → Some s ≡ outline_if o
     by None there timers = absurd (none-some h (sym there))
