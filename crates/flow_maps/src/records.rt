@@ -45,8 +45,8 @@ fn next_text(count: Option<u64>) -> Option<TextNo>
 }
 
 /// How many texts there are, by the number of the last one.
-fn count_of(last: Option<TextNo>) -> Option<u64>
-    ensures { (k : ℕ) → IfSome last (λ n. n ≡ k) → IfSome result (λ c. c ≡ k) }
+fn count_of(last: &Option<TextNo>) -> Option<u64>
+    ensures { (k : ℕ) → IfSome last.now (λ n. n ≡ k) → IfSome result (λ c. c ≡ k) }
 {
     match last {
         Some(number) => Some(number.get()),
@@ -137,8 +137,8 @@ impl Records {
         ensures { (b : Book) → KnowsRecords self.old b → KnowsRecords self.new (changed b (AddText body.now)) }
     {
         let next = next_text(self.count);
-        let count = count_of(next);
-        self.texts.keep_next(next, body);
+        let count = count_of(&next);
+        self.texts.keep_next(&next, body);
         self.count = count;
     }
 

@@ -115,11 +115,11 @@ impl TextBodies {
     }
 
     /// A copy of this is kept as the text of a number, if that is known and there is memory for it.
-    pub fn keep_next(&mut self, number: Option<TextNo>, body: &RawText)
-        ensures { (b : Book) → IfSome number (λ n. nth b.texts n ≡ Some body.now) → KnowsTexts self.old b → KnowsTexts self.new b }
+    pub fn keep_next(&mut self, number: &Option<TextNo>, body: &RawText)
+        ensures { (b : Book) → IfSome number.now (λ n. nth b.texts n ≡ Some body.now) → KnowsTexts self.old b → KnowsTexts self.new b }
     {
         match number {
-            Some(number) => self.keep_copy(number, body),
+            Some(number) => self.keep_copy(*number, body),
             None => {}
         }
     }
