@@ -24,13 +24,13 @@ prefix_length xs ys p = omega (arith, sym (ap length p.1) ∙ length-append xs p
 
 pub over_self : (ks : List Accounted) → IsOver ks ks
 over_self [] = tt
-over_self (k ∷ ks) = refl
+over_self (k ∷ ks) = (refl, λ n is. is)
 
 pub over_trans : (js ks ls : List Accounted) → IsOver js ks → IsOver ks ls → IsOver js ls
 over_trans [] ks ls p q = tt
 over_trans (j ∷ js) [] ls p q = absurd p
 over_trans (j ∷ js) (k ∷ ks) [] p q = absurd q
-over_trans (j ∷ js) (k ∷ ks) (l ∷ ls) p q = q ∙ p
+over_trans (j ∷ js) (k ∷ ks) (l ∷ ls) p q = (q.0 ∙ p.0, λ n is. q.1 n (p.1 n is))
 
 pub before_self : (k : HubFacts) → IsBefore k k
 before_self k = record {

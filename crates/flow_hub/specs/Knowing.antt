@@ -11,6 +11,7 @@ use Rattle.flow_base.specs.declared.task.Task.{Task}
 use Rattle.flow_base.specs.contracts.task.Task as task_row
 use Rattle.flow_commit.specs.Keeping.{batch_code}
 use Rattle.flow_commit.specs.Accounts.{Accounted, account_code, log_code}
+use Rattle.flow_commit.specs.Over.{StayOver}
 use Rattle.flow_commit.specs.Stamps.{IsLegal}
 use Rattle.flow_hub.specs.declared.known.HubFacts.{HubFacts}
 use Rattle.flow_hub.specs.declared.known.BoardSummary.{BoardSummary}
@@ -104,14 +105,19 @@ with_given k t = record k { given = k.given ++ t ∷ [] }
 
 ---- How it grows
 
--- The later stamp's keeper was made over the book and the file of the earlier one's.
+-- The later stamp's keeper was made over the book and the file of the earlier one's, and which runs were over then are over.
 abbrev pub IsOver : List Accounted → List Accounted → Type 0
 IsOver [] ls = Unit {0}
 IsOver (k ∷ ks) [] = ⊥
-IsOver (k ∷ ks) (l ∷ ls) = l.base ≡ k.base
+IsOver (k ∷ ks) (l ∷ ls) = (l.base ≡ k.base) × StayOver k.over l.over
+
+-- the runs that are over, as the last stamp tells
+abbrev pub over_in : List Accounted → List ℕ
+over_in [] = []
+over_in (k ∷ ks) = k.over
 
 -- What was submitted, the history, what was answered by a code, the tasks posted and those given only grow; all stamps have one
--- base; answers that were fetched and submitters are counted on; and what is closed stays so.
+-- base, and what is over stays so; answers that were fetched and submitters are counted on; and what is closed stays so.
 pub record IsBefore (k l : HubFacts) : Type 0 where
   pub asked : IsPrefix k.asked l.asked
   pub history : IsPrefix k.history l.history

@@ -6,14 +6,15 @@ use Rattle.flow_base.specs.declared.submission.Receipt.{Receipt}
 use Rattle.flow_base.specs.declared.submission.Taken.{Taken}
 use Rattle.flow_commit.specs.Accounts.{Accounted}
 use Rattle.flow_commit.specs.Keeping.{count_from}
+use Rattle.flow_commit.specs.Over.{StayOver}
 use Rattle.flow_commit.specs.Stamps.{Stamped}
 use Rattle.flow_commit.specs.Boards.{Boarded}
 use Rattle.flow_hub.specs.declared.known.HubFacts.{HubFacts}
 use Rattle.flow_hub.specs.declared.known.TakeFacts.{TakeFacts}
-use Rattle.flow_queues.specs.Posting.{HasKeys, new_ones}
+use Rattle.flow_queues.specs.Posting.{HasStill, new_ones}
 use Rattle.flow_hub.specs.Asks.{IsAsked, tickets_in, takens_of}
 use Rattle.flow_queues.specs.Refusing.{refused_by}
-use Rattle.flow_hub.specs.Knowing.{IsOver, answered_in, taken_at_once}
+use Rattle.flow_hub.specs.Knowing.{IsOver, answered_in, over_in, taken_at_once}
 
 -- What the keeper has kept is what the publisher has published, over the same book and file, and nothing is taken.
 pub record Together (keeper : Accounted) (k : HubFacts) : Type 0 where
@@ -97,10 +98,12 @@ pub record HasRefused (old new : HubFacts) (xs : List Taken) (code : Code) : Typ
   pub outlook : new.outlook ≡ None
   pub skipped : new.skipped ≡ old.skipped
 
--- The board was made behind all that is published, when these tasks were posted.
+-- The board was made behind all that is published, when these tasks were posted, but for what is of runs that are over; and it names
+-- nothing of these.
 pub record IsFresh (k : HubFacts) (board : Boarded) : Type 0 where
   pub kept : board.kept ≡ length k.history
-  pub posted : HasKeys (record { keys = board.posted }) k.posted
+  pub posted : HasStill (over_in k.last) (record { keys = board.posted }) k.posted
+  pub over : StayOver (over_in k.last) board.over
 
 -- All else that the publisher alone changes is as it was.
 pub record IsSameHistory (old new : HubFacts) : Type 0 where

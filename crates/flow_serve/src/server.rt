@@ -3,7 +3,7 @@ ghost use Rattle.std.specs.Prelude.{◌≡◌, ◌≤◌, true, false, [], List,
 ghost use Rattle.std.specs.Vec.{vec_capacity};
 ghost use Rattle.flow_base.specs.declared.fault.Fault.{Fault as AFault};
 ghost use Rattle.flow_base.specs.declared.submission.Taken.{Taken as ATaken};
-ghost use Rattle.flow_commit.specs.Boards.{AreAmong};
+ghost use Rattle.flow_commit.specs.Boards.{AreStill};
 ghost use Rattle.flow_commit.specs.Calls.{BoardSays};
 ghost use Rattle.flow_commit.specs.Keeping.{account_of};
 ghost use Rattle.flow_hub.specs.Knowing.{IsBefore};
@@ -97,7 +97,7 @@ fn ask_board<S: Alter>(
     at: Moment,
     again: bool,
 ) -> Result<Board, Fault>
-    requires still { again ≡ true → engine.old.halted ≡ false → AreAmong engine.old.posted posted.now.keys }
+    requires still { again ≡ true → engine.old.halted ≡ false → AreStill engine.old.over engine.old.posted posted.now.keys }
     ensures { BoardSays S.Store posted.now.keys at engine.old engine.new result }
 {
     if again {
