@@ -1,10 +1,9 @@
 //! The calls of the thread that answers.
 ghost use Rattle.std.specs.Prelude.{◌≡◌, ◌<◌, ◌≤◌, true, false, [], length, IfErr, OnOk};
 ghost use Rattle.std.specs.Vec.{vec_capacity};
-ghost use Rattle.std.specs.BTreeSet.{contains};
-ghost use Rattle.flow_base.specs.Keys.{Key};
-ghost use Rattle.flow_hub.specs.Knowing.{IsBefore, IsHistory, IsSamePart, over_in};
-ghost use Rattle.flow_queues.specs.Posting.{HasStill, IsOnce, has_key, is_of, key_cmp};
+ghost use Rattle.flow_commit.specs.Over.{StayOver};
+ghost use Rattle.flow_hub.specs.Knowing.{IsBefore, IsHistory, IsSamePart};
+ghost use Rattle.flow_queues.specs.Posting.{HasStill, IsOnce};
 ghost use Rattle.flow_hub.specs.Publishing.{Answers, HasTaken, HasPublished, HasRefused, HasPosted, HasSkipped, HasEnded, IsFresh, IsAllTaken, IsDone, TakesAll};
 ghost use Rattle.flow_hub.specs.Seating.{IsPublishers};
 
@@ -32,13 +31,13 @@ pub struct Publisher<B: Room> {
     alloc: Global,
     shared: Arc<Shared<B>>,
     seat: Pass<B>,
-    /// The keys of what it has posted, but for those of runs that are over.
+    /// The keys of what it has posted, but for those of runs that are gone.
     keys: Keys,
 }
 
 impl<B: Room> Model for Publisher<B> {
     ghost use Rattle.flow_hub.specs.declared.known.HubFacts.{HubFacts};
-    ghost use Rattle.flow_hub.specs.Knowing.{known_code, over_in};
+    ghost use Rattle.flow_hub.specs.Knowing.{known_code};
     ghost use Rattle.flow_queues.specs.Posting.{HasStill};
     ghost use Rattle.flow_hub.specs.Seating.{IsPublishers};
 
@@ -48,7 +47,7 @@ impl<B: Room> Model for Publisher<B> {
 
     ghost view = { λ p. p.seat.was };
 
-    ghost invariant = { λ p. IsPublishers p.seat × HasStill (over_in p.seat.was.last) p.keys p.seat.was.posted };
+    ghost invariant = { λ p. IsPublishers p.seat × HasStill p.seat.was.gone p.keys p.seat.was.posted };
 }
 
 /// Waits until something is there to be taken, or nothing will come.
@@ -122,10 +121,12 @@ impl<B: Room> Publisher<B> {
         some
     }
 
-    /// Answers all that was taken, by the receipts of a stamp. The keys of the runs that the stamp tells are closed are let go of.
+    /// Answers all that was taken, by the receipts of a stamp. The keys of the runs that the stamp tells are closed are let go of: these
+    /// runs are over.
     pub fn publish<R: Wait>(&mut self, rt: &R, receipts: Vec<Receipt>, stamp: Stamp)
         requires answers { Answers self.old stamp receipts.items }
         ensures published { HasPublished self.old self.new stamp receipts.items }
+        ensures closed { StayOver stamp.closed stamp.account.over }
         ensures legal { IsHistory self.new }
         ensures grows { IsBefore self.old self.new }
     {
@@ -152,7 +153,7 @@ impl<B: Room> Publisher<B> {
 
     /// Posts those of a board's tasks that it hasn't posted before, for those who give them out, and what the board says beside. By
     /// the caller's condition the board was made behind all that is published, when these tasks were posted, and names nothing of a
-    /// run that is over. So none is posted twice, whatever the board names.
+    /// run that is gone. So none is posted twice, whatever the board names.
     ///
     /// # Failure
     /// E01: nothing is posted, and the board comes back.
@@ -177,10 +178,9 @@ impl<B: Room> Publisher<B> {
         Ok(())
     }
 
-    /// The keys of what it has posted and may come again: of all but what is of runs that are over, which no later board names.
+    /// The keys of what it has posted and may come again: of all but what is of runs that are gone, of which it has none.
     pub fn posted(&self) -> &BTreeSet<Posted>
-        ensures still { HasStill (over_in self.now.last) result.now self.now.posted }
-        ensures gone { (q : Key) → has_key self.now.posted q ≡ true → contains key_cmp result.now q ≡ false → is_of (over_in self.now.last) q.0 ≡ true }
+        ensures { HasStill self.now.gone result.now self.now.posted }
     {
         &self.keys
     }

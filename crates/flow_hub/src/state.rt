@@ -296,7 +296,7 @@ impl<B: Room> State<B> {
     ) -> Pass<B>
         requires seat { IsPublishers me }
         requires answers { Answers me.was stamp receipts.items }
-        ensures published { self.new ≡ published self.old stamp.account receipts.items }
+        ensures published { self.new ≡ published self.old stamp receipts.items }
         ensures seat { result ≡ seeing true false 0 self.new.known }
         ensures seen { HasPublished me.was result.was stamp receipts.items }
         ensures grows { IsBefore me.was result.was }

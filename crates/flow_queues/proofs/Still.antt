@@ -141,59 +141,45 @@ gone_all old now runs rest q none same = sym (and_true (contains key_cmp now q))
 
 ---- A set of the keys that may still come
 
-pub none_still : (over : List ℕ) (s : BTreeSet Key) → s.keys ≡ [] → HasStill over s []
-none_still over s none = record {
-  among = λ q has. off (sym (ap (λ ks. list_any (λ k. is_eq (key_cmp q k)) ks) none) ∙ has);
-  gone = λ q has. off has;
-}
+pub none_still : (gone : List ℕ) (s : BTreeSet Key) → s.keys ≡ [] → HasStill gone s []
+none_still gone s none q = ap (λ ks. list_any (λ k. is_eq (key_cmp q k)) ks) none
 
 -- the same of another set of the same keys
-pub still_alike : (over : List ℕ) (s n : BTreeSet Key) (ts : List Task) → ((q : Key) → contains key_cmp n q ≡ contains key_cmp s q) → HasStill over s ts → HasStill over n ts
-still_alike over s n ts same h = record { among = λ q has. h.among q (sym (same q) ∙ has); gone = λ q has out. h.gone q has (sym (same q) ∙ out) }
+pub still_alike : (gone : List ℕ) (s n : BTreeSet Key) (ts : List Task) → ((q : Key) → contains key_cmp n q ≡ contains key_cmp s q) → HasStill gone s ts → HasStill gone n ts
+still_alike gone s n ts same h q = same q ∙ h q
 
--- runs more are over, and their keys are let go of
-pub still_without : (old new runs : List ℕ) (s n : BTreeSet Key) (ts : List Task) → ((m : ℕ) → is_of old m ≡ true → is_of new m ≡ true) → ((m : ℕ) → is_of runs m ≡ true → is_of new m ≡ true)
-    → ((q : Key) → contains key_cmp n q ≡ (contains key_cmp s q && not (is_of runs q.0))) → HasStill old s ts → HasStill new n ts
-still_without old new runs s n ts stay more drops h = record {
-  among = λ q has. h.among q (first (contains key_cmp s q) (not (is_of runs q.0)) (sym (drops q) ∙ has));
-  gone = λ q has out. by q has (contains key_cmp s q) (is_of runs q.0) refl refl (sym (drops q) ∙ out);
-}
+of_both : (runs more : List ℕ) (n : ℕ) → is_of (runs ++ more) n ≡ (is_of runs n || is_of more n)
+of_both [] more n = refl
+of_both (r ∷ runs) more n = ap (λ b. is_eq (nat_cmp r n) || b) (of_both runs more n) ∙ by (is_eq (nat_cmp r n)) (is_of runs n) (is_of more n)
   where
-    first : (a b : Bool) → (a && b) ≡ true → a ≡ true
-    first true b e = refl
-    first false b e = e
+    by : (a b c : Bool) → (a || (b || c)) ≡ ((a || b) || c)
+    by true b c = refl
+    by false b c = refl
 
-    by : (q : Key) → has_key ts q ≡ true → (a b : Bool) → contains key_cmp s q ≡ a → is_of runs q.0 ≡ b → (a && not b) ≡ false → is_of new q.0 ≡ true
-    by q has false b out closed e = stay q.0 (h.gone q has out)
-    by q has true true there closed e = more q.0 closed
-    by q has true false there closed e = absurd (true≢false e)
+-- and when the keys of further runs are let go of
+pub still_without : (gone runs : List ℕ) (s n : BTreeSet Key) (ts : List Task) → ((q : Key) → contains key_cmp n q ≡ (contains key_cmp s q && not (is_of runs q.0))) → HasStill gone s ts → HasStill (gone ++ runs) n ts
+still_without gone runs s n ts drops h q =
+    drops q ∙ ap (λ v. v && not (is_of runs q.0)) (h q) ∙ gone_next (has_key ts q) (is_of gone q.0) (is_of runs q.0) ∙ ap (λ v. has_key ts q && not v) (sym (of_both gone runs q.0))
 
 ---- What is new by that set
 
--- those of the tasks whose keys are in the set
-abbrev left_in : BTreeSet Key → List Task → List Task
-left_in s ts = filter (λ (t : Task). contains key_cmp s (key_of t)) ts
+-- those of the tasks that aren't of these runs
+abbrev left_of : List ℕ → List Task → List Task
+left_of gone ts = filter (λ (t : Task). not (is_of gone t.run)) ts
 
-left_has : (s : BTreeSet Key) (ts : List Task) (q : Key) → has_key (left_in s ts) q ≡ (contains key_cmp s q && has_key ts q)
-left_has s [] q = sym (and_false (contains key_cmp s q))
-left_has s (t ∷ ts) q = by (left_has s ts q) (contains key_cmp s (key_of t)) refl (is_key (key_of t) q) refl
+left_has : (gone : List ℕ) (ts : List Task) (q : Key) → has_key (left_of gone ts) q ≡ (has_key ts q && not (is_of gone q.0))
+left_has gone [] q = refl
+left_has gone (t ∷ ts) q = by (left_has gone ts q) (is_of gone t.run) refl (is_key (key_of t) q) refl
   where
-    by : has_key (left_in s ts) q ≡ (contains key_cmp s q && has_key ts q) → (v : Bool) → contains key_cmp s (key_of t) ≡ v → (w : Bool) → is_key (key_of t) q ≡ w
-        → has_key (cond v (t ∷ left_in s ts) (left_in s ts)) q ≡ (contains key_cmp s q && (w || has_key ts q))
-    by rest true there true own = ap (λ b. b || has_key (left_in s ts) q) own ∙ sym (ap (λ b. b && true) (subst (λ x. contains key_cmp s x ≡ true) (key_is (key_of t) q own) there))
-    by rest true there false own = ap (λ b. b || has_key (left_in s ts) q) own ∙ rest
-    by rest false there true own =
-        let out : contains key_cmp s q ≡ false = subst (λ x. contains key_cmp s x ≡ false) (key_is (key_of t) q own) there in
-        rest ∙ ap (λ b. b && has_key ts q) out ∙ sym (ap (λ b. b && true) out)
-    by rest false there false own = rest
+    own : is_key (key_of t) q ≡ true → is_of gone q.0 ≡ is_of gone t.run
+    own same = sym (ap (λ (k : Key). is_of gone k.0) (key_is (key_of t) q same))
 
--- the set has their keys
-left_keys : (over : List ℕ) (s : BTreeSet Key) (ts : List Task) → HasStill over s ts → HasKeys s (left_in s ts)
-left_keys over s ts h q = by (contains key_cmp s q) refl ∙ sym (left_has s ts q)
-  where
-    by : (v : Bool) → contains key_cmp s q ≡ v → v ≡ (v && has_key ts q)
-    by true there = sym (h.among q there)
-    by false there = refl
+    by : has_key (left_of gone ts) q ≡ (has_key ts q && not (is_of gone q.0)) → (v : Bool) → is_of gone t.run ≡ v → (w : Bool) → is_key (key_of t) q ≡ w
+        → has_key (cond (not v) (t ∷ left_of gone ts) (left_of gone ts)) q ≡ ((w || has_key ts q) && not (is_of gone q.0))
+    by rest true out true same = rest ∙ ap (λ v. has_key ts q && not v) (own same ∙ out) ∙ and_false (has_key ts q) ∙ sym (ap not (own same ∙ out))
+    by rest true out false same = rest
+    by rest false out true same = ap (λ b. b || has_key (left_of gone ts) q) same ∙ sym (ap not (own same ∙ out))
+    by rest false out false same = ap (λ b. b || has_key (left_of gone ts) q) same ∙ rest
 
 -- The keys of these tasks are in both lists or in neither.
 abbrev AreAlike : List Task → List Task → List Task → Type 0
@@ -220,59 +206,41 @@ apart_first : (a b : Bool) → (a || b) ≡ false → (a ≡ false) × (b ≡ fa
 apart_first true b e = absurd (true≢false e)
 apart_first false b e = (refl, e)
 
--- of tasks of runs that aren't over the set knows all
-left_alike : (over : List ℕ) (s : BTreeSet Key) (posted ts : List Task) → HasStill over s posted → names_of over ts ≡ false → AreAlike (left_in s posted) posted ts
-left_alike over s posted [] h apart = tt
-left_alike over s posted (t ∷ ts) h apart =
-    let own = apart_first (is_of over t.run) (names_of over ts) apart in
-    (left_has s posted (key_of t) ∙ by (contains key_cmp s (key_of t)) refl (has_key posted (key_of t)) refl own.0, left_alike over s posted ts h own.1)
+-- of tasks of other runs what is left knows all
+left_alike : (gone : List ℕ) (posted ts : List Task) → names_of gone ts ≡ false → AreAlike (left_of gone posted) posted ts
+left_alike gone posted [] apart = tt
+left_alike gone posted (t ∷ ts) apart =
+    let own = apart_first (is_of gone t.run) (names_of gone ts) apart in
+    (left_has gone posted (key_of t) ∙ ap (λ v. has_key posted (key_of t) && not v) own.0 ∙ and_true (has_key posted (key_of t)), left_alike gone posted ts own.1)
+
+-- and what is new of them has no key of these runs
+new_apart : (gone : List ℕ) (posted ts : List Task) (q : Key) → names_of gone ts ≡ false → is_of gone q.0 ≡ true → has_key (new_ones posted ts) q ≡ false
+new_apart gone posted [] q apart is = refl
+new_apart gone posted (t ∷ ts) q apart is =
+    let own = apart_first (is_of gone t.run) (names_of gone ts) apart in
+    by (has_key posted (key_of t)) (new_apart gone posted ts q own.1 is) (new_apart gone (posted ++ t ∷ []) ts q own.1 is) (is_key (key_of t) q) refl own.0
   where
-    by : (v : Bool) → contains key_cmp s (key_of t) ≡ v → (w : Bool) → has_key posted (key_of t) ≡ w → is_of over t.run ≡ false → (v && w) ≡ w
-    by true there w has out = refl
-    by false there true has out = absurd (true≢false (sym (h.gone (key_of t) has there) ∙ out))
-    by false there false has out = refl
-
-or_right : (a b : Bool) → b ≡ true → (a || b) ≡ true
-or_right true b h = refl
-or_right false b h = h
-
-or_left : (a b : Bool) → a ≡ true → (a || b) ≡ true
-or_left true b h = refl
-or_left false b h = off h
+    by : (v : Bool) → has_key (new_ones posted ts) q ≡ false → has_key (new_ones (posted ++ t ∷ []) ts) q ≡ false → (w : Bool) → is_key (key_of t) q ≡ w → is_of gone t.run ≡ false
+        → has_key (cond v (new_ones posted ts) (t ∷ new_ones (posted ++ t ∷ []) ts)) q ≡ false
+    by true old more w same out = old
+    by false old more true same out = absurd (true≢false (sym is ∙ sym (ap (λ (k : Key). is_of gone k.0) (key_is (key_of t) q same)) ∙ out))
+    by false old more false same out = ap (λ b. b || has_key (new_ones (posted ++ t ∷ []) ts) q) same ∙ more
 
 -- What is posted by what the set has is what is new of all that was posted, and then it has their keys too.
-pub still_posted : (over : List ℕ) (s n : BTreeSet Key) (posted ts : List Task) (ms : List Bool) → HasStill over s posted → names_of over ts ≡ false
-    → ((xs : List Task) → HasKeys s xs → (ms ≡ marks_of xs ts) × HasKeys n (xs ++ new_ones xs ts)) → (ms ≡ marks_of posted ts) × HasStill over n (posted ++ new_ones posted ts)
-still_posted over s n posted ts ms h apart told =
-    let same = left_alike over s posted ts h apart in
-    let made = told (left_in s posted) (left_keys over s posted h) in
-    let more : new_ones (left_in s posted) ts ≡ new_ones posted ts = same_new (left_in s posted) posted ts same in
-    let keys : HasKeys n (left_in s posted ++ new_ones posted ts) = subst (λ us. HasKeys n (left_in s posted ++ us)) more made.1 in (
-      made.0 ∙ same_marks (left_in s posted) posted ts same,
-      record {
-        among = λ q has. has_both posted (new_ones posted ts) q ∙ among_by q (has_key (new_ones posted ts) q) (has_key (left_in s posted) q) refl refl
-            (sym (has_both (left_in s posted) (new_ones posted ts) q) ∙ sym (keys q) ∙ has);
-        gone = λ q has out. gone_by q (has_key posted q) (has_key (new_ones posted ts) q) refl (sym (has_both posted (new_ones posted ts) q) ∙ has)
-            (sym (has_both (left_in s posted) (new_ones posted ts) q) ∙ sym (keys q) ∙ out);
-      },
+pub still_posted : (gone : List ℕ) (s n : BTreeSet Key) (posted ts : List Task) (ms : List Bool) → HasStill gone s posted → names_of gone ts ≡ false
+    → ((xs : List Task) → HasKeys s xs → (ms ≡ marks_of xs ts) × HasKeys n (xs ++ new_ones xs ts)) → (ms ≡ marks_of posted ts) × HasStill gone n (posted ++ new_ones posted ts)
+still_posted gone s n posted ts ms h apart told =
+    let same = left_alike gone posted ts apart in
+    let made = told (left_of gone posted) (λ q. h q ∙ sym (left_has gone posted q)) in
+    let more : new_ones (left_of gone posted) ts ≡ new_ones posted ts = same_new (left_of gone posted) posted ts same in
+    let keys : HasKeys n (left_of gone posted ++ new_ones posted ts) = subst (λ us. HasKeys n (left_of gone posted ++ us)) more made.1 in (
+      made.0 ∙ same_marks (left_of gone posted) posted ts same,
+      λ q.
+          keys q ∙ has_both (left_of gone posted) (new_ones posted ts) q ∙ ap (λ b. b || has_key (new_ones posted ts) q) (left_has gone posted q)
+          ∙ by q (is_of gone q.0) refl ∙ ap (λ b. b && not (is_of gone q.0)) (sym (has_both posted (new_ones posted ts) q)),
     )
   where
-    among_by : (q : Key) (v w : Bool) → has_key (new_ones posted ts) q ≡ v → has_key (left_in s posted) q ≡ w → (w || v) ≡ true → (has_key posted q || has_key (new_ones posted ts) q) ≡ true
-    among_by q true w new there e = or_right (has_key posted q) (has_key (new_ones posted ts) q) new
-    among_by q false true new there e = or_left (has_key posted q) (has_key (new_ones posted ts) q) (was (contains key_cmp s q) (has_key posted q) (sym (left_has s posted q) ∙ there))
-      where
-        was : (a b : Bool) → (a && b) ≡ true → b ≡ true
-        was true b e = e
-        was false b e = off e
-    among_by q false false new there e = off e
-
-    gone_by : (q : Key) (a b : Bool) → has_key posted q ≡ a → (a || b) ≡ true → (has_key (left_in s posted) q || b) ≡ false → is_of over q.0 ≡ true
-    gone_by q true b was e out =
-        let none = (apart_first (has_key (left_in s posted) q) b out).0 in
-        h.gone q was (there (contains key_cmp s q) (has_key posted q) was (sym (left_has s posted q) ∙ none))
-      where
-        there : (x y : Bool) → y ≡ true → (x && y) ≡ false → x ≡ false
-        there true y is none = absurd (true≢false (sym is ∙ none))
-        there false y is none = refl
-    gone_by q false true was e out = absurd (true≢false ((apart_first (has_key (left_in s posted) q) true out).1))
-    gone_by q false false was e out = off e
+    by : (q : Key) (v : Bool) → is_of gone q.0 ≡ v
+        → ((has_key posted q && not v) || has_key (new_ones posted ts) q) ≡ ((has_key posted q || has_key (new_ones posted ts) q) && not v)
+    by q true is = ap (λ b. b || has_key (new_ones posted ts) q) (and_false (has_key posted q)) ∙ new_apart gone posted ts q apart is ∙ sym (and_false (has_key posted q || has_key (new_ones posted ts) q))
+    by q false is = ap (λ b. b || has_key (new_ones posted ts) q) (and_true (has_key posted q)) ∙ sym (and_true (has_key posted q || has_key (new_ones posted ts) q))

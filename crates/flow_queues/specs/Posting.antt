@@ -1,5 +1,5 @@
 -- Which tasks of a board are posted: each that wasn't posted before, once.
-use Rattle.std.specs.Prelude.{◌≡◌, ℕ, Bool, true, false, cond, List, [], ◌∷◌, ◌++◌, Option, Some, None}
+use Rattle.std.specs.Prelude.{◌≡◌, ◌&&◌, not, ℕ, Bool, true, false, cond, List, [], ◌∷◌, ◌++◌, Option, Some, None}
 use Rattle.std.specs.List.{list_any}
 use Rattle.std.specs.declared.cmp.Ordering.{Ordering}
 use Rattle.std.specs.Ordering.{nat_cmp, is_eq, ordering_then}
@@ -30,10 +30,9 @@ is_of runs n = list_any (λ (r : ℕ). is_eq (nat_cmp r n)) runs
 abbrev pub names_of : List ℕ → List Task → Bool
 names_of runs ts = list_any (λ (t : Task). is_of runs t.run) ts
 
--- The set has keys of these tasks and no others, and it lacks none but of these runs.
-pub record HasStill (over : List ℕ) (s : BTreeSet Key) (ts : List Task) : Type 0 where
-  pub among : (q : Key) → contains key_cmp s q ≡ true → has_key ts q ≡ true
-  pub gone : (q : Key) → has_key ts q ≡ true → contains key_cmp s q ≡ false → is_of over q.0 ≡ true
+-- The set has the keys of these tasks, but for what is of these runs, and no other.
+abbrev pub HasStill : List ℕ → BTreeSet Key → List Task → Type 0
+HasStill gone s ts = (q : Key) → contains key_cmp s q ≡ (has_key ts q && not (is_of gone q.0))
 
 -- the first of a run's keys; none where the set has none
 abbrev pub IsFirstOf : ℕ → BTreeSet Key → Option Key → Type 0

@@ -1,5 +1,5 @@
 -- What is posted, from board to board.
-use Rattle.std.proofs.Common.{◌≡◌, ◌||◌, ℕ, Bool, true, false, List, [], ◌∷◌, ◌++◌, length, map, refl, sym, ap, ◌∙◌, subst, true≢false}
+use Rattle.std.proofs.Common.{◌≡◌, ◌&&◌, ◌||◌, not, ℕ, Bool, true, false, List, [], ◌∷◌, ◌++◌, length, map, refl, sym, ap, ◌∙◌, subst, true≢false}
 use mathlib.Core.List.{IsPrefix}
 use Rattle.std.specs.BTreeSet.{BTreeSet, contains}
 use Rattle.sqlite_trees.specs.declared.store.Store.{Ghosts}
@@ -47,13 +47,20 @@ all_posted : (ts : List Task) (q : Key) → is_posted (map key_of ts) q ≡ has_
 all_posted ts q = sym (set_has q (map key_of ts)) ∙ keys_have ts q
 
 -- of runs that aren't over the set knows all that was posted
-still_same : (over all : List ℕ) (keys : BTreeSet Key) (was : List Task) (q : Key) → HasStill over keys was → StayOver over all → is_over all q.0 ≡ false → contains key_cmp keys q ≡ has_key was q
-still_same over all keys was q has stay out = by (contains key_cmp keys q) refl (has_key was q) refl
+still_same : (gone all : List ℕ) (keys : BTreeSet Key) (was : List Task) (q : Key) → HasStill gone keys was → StayOver gone all → is_over all q.0 ≡ false → contains key_cmp keys q ≡ has_key was q
+still_same gone all keys was q has stay out = has q ∙ ap (λ v. has_key was q && not v) (apart (is_over gone q.0) refl) ∙ whole (has_key was q)
   where
-    by : (v : Bool) → contains key_cmp keys q ≡ v → (w : Bool) → has_key was q ≡ w → v ≡ w
-    by true there w posted = sym (has.among q there) ∙ posted
-    by false there true posted = absurd (true≢false (sym (stay q.0 (has.gone q posted there)) ∙ out))
-    by false there false posted = refl
+    apart : (v : Bool) → is_over gone q.0 ≡ v → v ≡ false
+    apart true is = absurd (true≢false (sym (stay q.0 is) ∙ out))
+    apart false is = refl
+
+    whole : (a : Bool) → (a && true) ≡ a
+    whole true = refl
+    whole false = refl
+
+first : (a b : Bool) → (a && b) ≡ true → a ≡ true
+first true b e = refl
+first false b e = absurd (true≢false (sym e))
 
 module _ {S : Type 0} where
   -- what stands of an engine later: it has kept as much and more, over the same book, and was fit if it is
@@ -111,10 +118,10 @@ module _ {S : Type 0} where
   posts_once g tells now was posted p once = are_once g tells now was posted p.boards p.are once
 
   -- A board that was just made, of an engine that goes on: what was posted of runs that are over makes no difference to it.
-  pub board_was : (g : Ghosts S) (tells : ℕ → Type 0) (old new : Keeping S) (was : List Task) (over : List ℕ) (keys : BTreeSet Key) (at : ℕ) (it : Boarded) → tells at → new.log ≡ old.log → new.found ≡ old.found
-      → it.kept ≡ length old.log → HasStill over keys was → StayOver over old.over → (IsFit g new → AreShut old.over (after rules old.found (logged old.log)))
+  pub board_was : (g : Ghosts S) (tells : ℕ → Type 0) (old new : Keeping S) (was : List Task) (gone : List ℕ) (keys : BTreeSet Key) (at : ℕ) (it : Boarded) → tells at → new.log ≡ old.log → new.found ≡ old.found
+      → it.kept ≡ length old.log → HasStill gone keys was → StayOver gone old.over → (IsFit g new → AreShut old.over (after rules old.found (logged old.log)))
       → (IsFit g new → IsBoardOf (after rules old.found (logged old.log)) keys.keys at it) → WasBoard g tells new was (whole_of was it)
-  board_was g tells old new was over keys at it told log found kept has stay shut made = record {
+  board_was g tells old new was gone keys at it told log found kept has stay shut made = record {
     log = old.log;
     first = subst (λ (rs : List Receipt). IsPrefix old.log rs) (sym log) (prefix_self old.log);
     kept = kept;
@@ -125,7 +132,7 @@ module _ {S : Type 0} where
         let b = after rules old.found (logged old.log) in
         let its = made fit in
         subst (λ (f : Book). IsBoardOf (after rules f (logged old.log)) (map key_of was) at (whole_of was it)) (sym found) (record {
-          tasks = its.tasks ∙ ready_same old.over keys.keys (map key_of was) at b (shut fit) (λ q out. sym (set_has q keys.keys) ∙ still_same over old.over keys was q has stay out ∙ sym (all_posted was q));
+          tasks = its.tasks ∙ ready_same old.over keys.keys (map key_of was) at b (shut fit) (λ q out. sym (set_has q keys.keys) ∙ still_same gone old.over keys was q has stay out ∙ sym (all_posted was q));
           due = its.due;
           open_runs = its.open_runs;
         });
@@ -158,12 +165,12 @@ has_on (t ∷ ts) us q has = by (is_key (key_of t) q) (has_on ts us q) has
 
 module _ {S : Type 0} where
   -- a set of the keys of what is posted has those that were known, but for runs that are over
-  pub known_asked : (k : Keeping S) (over : List ℕ) (posted : List Task) (keys : BTreeSet Key) → HasStill over keys posted → StayOver over k.over → IsKnown k posted → k.halted ≡ false → AreStill k.over k.posted keys.keys
-  known_asked k over posted keys has stay known goes q is out = sym (set_has q keys.keys) ∙ (still_same over k.over keys posted q has stay out ∙ known goes q is)
+  pub known_asked : (k : Keeping S) (gone : List ℕ) (posted : List Task) (keys : BTreeSet Key) → HasStill gone keys posted → StayOver gone k.over → IsKnown k posted → k.halted ≡ false → AreStill k.over k.posted keys.keys
+  known_asked k gone posted keys has stay known goes q is out = sym (set_has q keys.keys) ∙ (still_same gone k.over keys posted q has stay out ∙ known goes q is)
 
   -- and a board that was made with it knows no more
-  pub known_behind : (old new : Keeping S) (over : List ℕ) (posted : List Task) (keys : BTreeSet Key) → HasStill over keys posted → new.halted ≡ old.halted → (old.halted ≡ false → AreAmong new.posted keys.keys) → IsKnown new posted
-  known_behind old new over posted keys has same owes goes q is = has.among q (set_has q keys.keys ∙ owes (sym same ∙ goes) q is)
+  pub known_behind : (old new : Keeping S) (gone : List ℕ) (posted : List Task) (keys : BTreeSet Key) → HasStill gone keys posted → new.halted ≡ old.halted → (old.halted ≡ false → AreAmong new.posted keys.keys) → IsKnown new posted
+  known_behind old new gone posted keys has same owes goes q is = first (has_key posted q) (not (is_over gone q.0)) (sym (has q) ∙ (set_has q keys.keys ∙ owes (sym same ∙ goes) q is))
 
   -- more is posted
   pub known_more : (k : Keeping S) (was more posted : List Task) → posted ≡ was ++ more → IsKnown k was → IsKnown k posted

@@ -1,5 +1,5 @@
 -- What becomes of submissions, from batch to batch.
-use Rattle.std.proofs.Common.{◌≡◌, inl, inr, ◌≤◌, ℕ, true, List, [], ◌∷◌, ◌++◌, length, map, refl, sym, ap, ◌∙◌, subst, append_assoc}
+use Rattle.std.proofs.Common.{◌≡◌, inl, inr, ◌≤◌, true, List, [], ◌∷◌, ◌++◌, length, map, refl, sym, ap, ◌∙◌, subst, append_assoc}
 use Rattle.std.specs.Prelude.{All}
 use Rattle.std.proofs.lemmas.List.{append-nil, map-append}
 use Rattle.std.proofs.lemmas.List.Elements.{All-nil, All-cons, All-append}
@@ -14,12 +14,12 @@ use Rattle.flow_view.specs.declared.fault.ViewFault.TheVariants as view_fault
 use Rattle.flow_model.specs.Book.{Book}
 use Rattle.flow_commit.specs.Accounts.{Accounted, Based, HandedIn, handed_in}
 use Rattle.flow_commit.specs.Keeping.{Keeping, account_of}
-use Rattle.flow_commit.specs.Over.{StayOver, is_over}
 use Rattle.flow_hub.specs.declared.known.HubFacts.{HubFacts}
 use Rattle.flow_queues.specs.declared.refused.Refused.{Refused}
 use Rattle.flow_queues.specs.Refusing.{refused_by}
 use Rattle.flow_hub.specs.Knowing.{IsOver}
 use Rattle.flow_hub.specs.Publishing.{Together}
+use Rattle.flow_hub.proofs.Serving.{stays_by}
 use Rattle.flow_serve.specs.Serving.{IsGivenUp, GivesUp, TurnsAway, StopsAt, StopsFor}
 
 ---- What was answered by a code
@@ -60,10 +60,11 @@ abbrev based : Book → HandedIn → Based
 based b h = record { found = b; opened = h }
 
 -- an engine that does nothing stands together with the publisher, whatever this one has turned away
-pub together_still : (k : Accounted) (was now : HubFacts) → Together k was → now.history ≡ was.history → now.last ≡ was.last → now.held ≡ [] → Together k now
-together_still k was now t history last none = record {
+pub together_still : (k : Accounted) (was now : HubFacts) → Together k was → now.history ≡ was.history → now.last ≡ was.last → now.gone ≡ was.gone → now.held ≡ [] → Together k now
+together_still k was now t history last gone none = record {
   log = t.log ∙ sym history;
   over = subst (λ ks. IsOver ks (k ∷ [])) (sym last) t.over;
+  gone = stays_by was.gone now.gone k.over gone t.gone;
   none = none;
 }
 
@@ -120,10 +121,6 @@ module _ {S : Type 0} where
       )
   turned_behind old new was now last waiting ws f (inr h) turns =
       inr (h.0, record { halted = h.1.halted; same = h.1.same; are = turns_then was now last waiting ws h.1.are turns })
-
-  -- where the same runs are over, those that were are
-  pub stays_by : (g : Ghosts S) (old new : Keeping S) → new.over ≡ old.over → StayOver old.over new.over
-  stays_by g old new same n is = subst (λ (runs : List ℕ). is_over runs n ≡ true) (sym same) is
 
   -- an engine over one book and one connection has one base
   pub same_base : (g : Ghosts S) (old new : Keeping S) → new.found ≡ old.found → new.stored.opened ≡ old.stored.opened → (account_of g new).base ≡ (account_of g old).base

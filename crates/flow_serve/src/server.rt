@@ -234,6 +234,7 @@ fn turn_away<B: Room, R: Wait + time::Clock>(
     ensures ended { publisher.new.ended ≡ true }
     ensures none { publisher.new.held ≡ [] }
     ensures history { (publisher.new.history ≡ publisher.old.history) × (publisher.new.last ≡ publisher.old.last) }
+    ensures gone { publisher.new.gone ≡ publisher.old.gone }
     ensures posted { publisher.new.posted ≡ publisher.old.posted }
     ensures skipped { SkipsFor fault.now publisher.old.skipped publisher.new.skipped }
     ensures whole { TakesAll most publisher.old publisher.new }

@@ -3,7 +3,7 @@ ghost use Rattle.std.specs.Prelude.{◌≡◌, ◌⊎◌, false, true, ◌∷◌
 ghost use mathlib.Core.List.{IsPrefix};
 ghost use Rattle.flow_hub.specs.Halls.{posted_on, skipped, gave};
 ghost use Rattle.flow_commit.specs.Over.{StayOver};
-ghost use Rattle.flow_hub.specs.Knowing.{IsBefore, IsSamePart, answered_in, nothing, over_in};
+ghost use Rattle.flow_hub.specs.Knowing.{IsBefore, IsSamePart, answered_in, nothing};
 ghost use Rattle.flow_queues.specs.Posting.{HasStill, IsOnce};
 ghost use Rattle.flow_hub.specs.Publishing.{HasPosted, HasSkipped};
 ghost use Rattle.flow_hub.specs.Ending.{HasCome, IsAwaited};
@@ -34,12 +34,12 @@ impl<B: Room> State<B> {
         board: Board,
     ) -> (Pass<B>, Result<(), (Board, AllocError)>)
         requires seat { IsPublishers me }
-        requires keys { HasStill (over_in me.was.last) keys.old me.was.posted }
-        requires over { StayOver (over_in me.was.last) board.over }
+        requires keys { HasStill me.was.gone keys.old me.was.posted }
+        requires gone { StayOver me.was.gone board.over }
         ensures posted { OnOk result.1 (self.new ≡ posted_on self.old board.tasks
             (record { due = board.due; open_runs = board.open_runs })) }
         ensures refused { IfErr result.1 (λ e. (e.0 ≡ board) × (self.new ≡ self.old)) }
-        ensures keys { HasStill (over_in result.0.was.last) keys.new result.0.was.posted }
+        ensures keys { HasStill result.0.was.gone keys.new result.0.was.posted }
         ensures seat { result.0 ≡ seeing true false 0 self.new.known }
         ensures seen { OnOk result.1 (HasPosted me.was result.0.was board) }
         ensures part { OnErr result.1 (IsSamePart me.was result.0.was) }

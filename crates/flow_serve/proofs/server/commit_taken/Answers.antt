@@ -21,11 +21,12 @@ publish-requires g c =
     let old = account_of g.S.Store c.args.engine.now in
     let new = account_of g.S.Store c.commit.new.self in
     let base = same_base g.S.Store c.args.engine.now c.commit.new.self c.commit.ensures.found c.commit.ensures.same in
-    record { answers = receipts_answer old new c.args.publisher.now c.in-Kept.stamp c.args.batch c.in-Kept.receipts.items c.requires.hand base c.commit.ensures.over noted.3 noted.4 noted.5 }
+    record { answers = receipts_answer old new c.args.publisher.now c.in-Kept.stamp c.args.batch c.in-Kept.receipts.items c.requires.hand base noted.3 noted.4 noted.5 }
 
 pub returns-in-Kept-clause-together : goal.returns-in-Kept-clause-together
 returns-in-Kept-clause-together g c =
-    published_together (account_of g.S.Store c.commit.new.self) c.args.publisher.now c.publish.new.self c.in-Kept.stamp c.in-Kept.receipts.items c.in-Kept.ensures.noted.5 c.publish.ensures.published
+    published_together (account_of g.S.Store c.args.engine.now) (account_of g.S.Store c.commit.new.self) c.args.publisher.now c.publish.new.self c.in-Kept.stamp c.args.batch c.in-Kept.receipts.items c.requires.hand
+    c.commit.ensures.over c.in-Kept.ensures.noted.5 c.publish.ensures.closed c.publish.ensures.published
 
 pub returns-in-Halted-clause-together : goal.returns-in-Halted-clause-together
 returns-in-Halted-clause-together g c =

@@ -1,9 +1,8 @@
-use Rattle.std.proofs.Common.{rules, ◌≡◌, ◌++◌, refl, sym, ap, ◌∙◌, subst, false, List}
+use Rattle.std.proofs.Common.{rules, ◌≡◌, ◌++◌, refl, sym, ap, ◌∙◌, subst, false, ℕ, List}
 use Rattle.flow_base.specs.declared.task.Task.{Task}
 use Rattle.flow_hub.specs.declared.known.HubFacts.{HubFacts}
-use Rattle.flow_commit.specs.Accounts.{Accounted}
 use Rattle.flow_commit.specs.Over.{StayOver}
-use Rattle.flow_hub.specs.Knowing.{IsSamePart, over_in, with_posted}
+use Rattle.flow_hub.specs.Knowing.{IsSamePart, with_posted}
 use Rattle.flow_queues.specs.Posting.{HasKeys, HasStill, chosen, marks_of, names_of, new_ones}
 use Rattle.flow_queues.proofs.Still.{still_alike, still_posted}
 use Rattle.flow_hub.proofs.Keys.{HasRest, apart_fewer, rest_same}
@@ -20,10 +19,10 @@ invariant_of-self-2 g c =
     let posted = i.known.posted in
     let into = c.into_parts-tasks in
     let same : IsSamePart c.args.me.was i.known = search rules in
-    let over = over_in i.known.last in
-    let keys : HasStill over c.args.keys.now posted = rest_same c.args.keys.now c.args.me.was c.args.me.was i.known refl same c.requires.keys in
-    let apart : names_of over ts ≡ false = apart_fewer over c.args.board.over ts (subst (λ (ks : List Accounted). StayOver (over_in ks) c.args.board.over) same.last c.requires.over) into.ensures.apart in
-    let marked = still_posted over c.args.keys.now c.add_all.new.keys posted ts c.in-Ok.marks.items keys apart
+    let gone = i.known.gone in
+    let keys : HasStill gone c.args.keys.now posted = rest_same c.args.keys.now c.args.me.was c.args.me.was i.known refl same c.requires.keys in
+    let apart : names_of gone ts ≡ false = apart_fewer gone c.args.board.over ts (subst (λ (runs : List ℕ). StayOver runs c.args.board.over) same.gone c.requires.gone) into.ensures.apart in
+    let marked = still_posted gone c.args.keys.now c.add_all.new.keys posted ts c.in-Ok.marks.items keys apart
     (λ xs its. subst (λ (us : List Task). (c.in-Ok.marks.items ≡ marks_of xs us) × HasKeys c.add_all.new.keys (xs ++ new_ones xs us)) c.tasks-2.ensures (c.in-Ok.ensures.marked xs its)) in
     let chose : chosen into.result.0.items c.in-Ok.marks.items ≡ new_ones posted ts = ap (λ us. chosen us c.in-Ok.marks.items) into.ensures.tasks ∙ chosen_new posted ts c.in-Ok.marks.items marked.0 in
     let known : c.post.new.self ≡ with_posted i.known (new_ones posted ts) (record { due = c.args.board.due; open_runs = c.args.board.open_runs }) =
@@ -54,10 +53,10 @@ returns-clause-posted g c =
     let posted = i.known.posted in
     let into = c.into_parts-tasks in
     let same : IsSamePart c.args.me.was i.known = search rules in
-    let over = over_in i.known.last in
-    let keys : HasStill over c.args.keys.now posted = rest_same c.args.keys.now c.args.me.was c.args.me.was i.known refl same c.requires.keys in
-    let apart : names_of over ts ≡ false = apart_fewer over c.args.board.over ts (subst (λ (ks : List Accounted). StayOver (over_in ks) c.args.board.over) same.last c.requires.over) into.ensures.apart in
-    let marked = still_posted over c.args.keys.now c.add_all.new.keys posted ts c.in-Ok.marks.items keys apart
+    let gone = i.known.gone in
+    let keys : HasStill gone c.args.keys.now posted = rest_same c.args.keys.now c.args.me.was c.args.me.was i.known refl same c.requires.keys in
+    let apart : names_of gone ts ≡ false = apart_fewer gone c.args.board.over ts (subst (λ (runs : List ℕ). StayOver runs c.args.board.over) same.gone c.requires.gone) into.ensures.apart in
+    let marked = still_posted gone c.args.keys.now c.add_all.new.keys posted ts c.in-Ok.marks.items keys apart
     (λ xs its. subst (λ (us : List Task). (c.in-Ok.marks.items ≡ marks_of xs us) × HasKeys c.add_all.new.keys (xs ++ new_ones xs us)) c.tasks-2.ensures (c.in-Ok.ensures.marked xs its)) in
     let chose : chosen into.result.0.items c.in-Ok.marks.items ≡ new_ones posted ts = ap (λ us. chosen us c.in-Ok.marks.items) into.ensures.tasks ∙ chosen_new posted ts c.in-Ok.marks.items marked.0 in
     let known : c.post.new.self ≡ with_posted i.known (new_ones posted ts) (record { due = c.args.board.due; open_runs = c.args.board.open_runs }) =
@@ -73,10 +72,10 @@ returns-clause-keys g c =
     let posted = i.known.posted in
     let into = c.into_parts-tasks in
     let same : IsSamePart c.args.me.was i.known = search rules in
-    let over = over_in i.known.last in
-    let keys : HasStill over c.args.keys.now posted = rest_same c.args.keys.now c.args.me.was c.args.me.was i.known refl same c.requires.keys in
-    let apart : names_of over ts ≡ false = apart_fewer over c.args.board.over ts (subst (λ (ks : List Accounted). StayOver (over_in ks) c.args.board.over) same.last c.requires.over) into.ensures.apart in
-    let marked = still_posted over c.args.keys.now c.add_all.new.keys posted ts c.in-Ok.marks.items keys apart
+    let gone = i.known.gone in
+    let keys : HasStill gone c.args.keys.now posted = rest_same c.args.keys.now c.args.me.was c.args.me.was i.known refl same c.requires.keys in
+    let apart : names_of gone ts ≡ false = apart_fewer gone c.args.board.over ts (subst (λ (runs : List ℕ). StayOver runs c.args.board.over) same.gone c.requires.gone) into.ensures.apart in
+    let marked = still_posted gone c.args.keys.now c.add_all.new.keys posted ts c.in-Ok.marks.items keys apart
     (λ xs its. subst (λ (us : List Task). (c.in-Ok.marks.items ≡ marks_of xs us) × HasKeys c.add_all.new.keys (xs ++ new_ones xs us)) c.tasks-2.ensures (c.in-Ok.ensures.marked xs its)) in
     let chose : chosen into.result.0.items c.in-Ok.marks.items ≡ new_ones posted ts = ap (λ us. chosen us c.in-Ok.marks.items) into.ensures.tasks ∙ chosen_new posted ts c.in-Ok.marks.items marked.0 in
     let known : c.post.new.self ≡ with_posted i.known (new_ones posted ts) (record { due = c.args.board.due; open_runs = c.args.board.open_runs }) =
@@ -92,10 +91,10 @@ returns-clause-seen g c =
     let posted = i.known.posted in
     let into = c.into_parts-tasks in
     let same : IsSamePart c.args.me.was i.known = search rules in
-    let over = over_in i.known.last in
-    let keys : HasStill over c.args.keys.now posted = rest_same c.args.keys.now c.args.me.was c.args.me.was i.known refl same c.requires.keys in
-    let apart : names_of over ts ≡ false = apart_fewer over c.args.board.over ts (subst (λ (ks : List Accounted). StayOver (over_in ks) c.args.board.over) same.last c.requires.over) into.ensures.apart in
-    let marked = still_posted over c.args.keys.now c.add_all.new.keys posted ts c.in-Ok.marks.items keys apart
+    let gone = i.known.gone in
+    let keys : HasStill gone c.args.keys.now posted = rest_same c.args.keys.now c.args.me.was c.args.me.was i.known refl same c.requires.keys in
+    let apart : names_of gone ts ≡ false = apart_fewer gone c.args.board.over ts (subst (λ (runs : List ℕ). StayOver runs c.args.board.over) same.gone c.requires.gone) into.ensures.apart in
+    let marked = still_posted gone c.args.keys.now c.add_all.new.keys posted ts c.in-Ok.marks.items keys apart
     (λ xs its. subst (λ (us : List Task). (c.in-Ok.marks.items ≡ marks_of xs us) × HasKeys c.add_all.new.keys (xs ++ new_ones xs us)) c.tasks-2.ensures (c.in-Ok.ensures.marked xs its)) in
     let chose : chosen into.result.0.items c.in-Ok.marks.items ≡ new_ones posted ts = ap (λ us. chosen us c.in-Ok.marks.items) into.ensures.tasks ∙ chosen_new posted ts c.in-Ok.marks.items marked.0 in
     let known : c.post.new.self ≡ with_posted i.known (new_ones posted ts) (record { due = c.args.board.due; open_runs = c.args.board.open_runs }) =
@@ -111,10 +110,10 @@ returns-clause-once g c =
     let posted = i.known.posted in
     let into = c.into_parts-tasks in
     let same : IsSamePart c.args.me.was i.known = search rules in
-    let over = over_in i.known.last in
-    let keys : HasStill over c.args.keys.now posted = rest_same c.args.keys.now c.args.me.was c.args.me.was i.known refl same c.requires.keys in
-    let apart : names_of over ts ≡ false = apart_fewer over c.args.board.over ts (subst (λ (ks : List Accounted). StayOver (over_in ks) c.args.board.over) same.last c.requires.over) into.ensures.apart in
-    let marked = still_posted over c.args.keys.now c.add_all.new.keys posted ts c.in-Ok.marks.items keys apart
+    let gone = i.known.gone in
+    let keys : HasStill gone c.args.keys.now posted = rest_same c.args.keys.now c.args.me.was c.args.me.was i.known refl same c.requires.keys in
+    let apart : names_of gone ts ≡ false = apart_fewer gone c.args.board.over ts (subst (λ (runs : List ℕ). StayOver runs c.args.board.over) same.gone c.requires.gone) into.ensures.apart in
+    let marked = still_posted gone c.args.keys.now c.add_all.new.keys posted ts c.in-Ok.marks.items keys apart
     (λ xs its. subst (λ (us : List Task). (c.in-Ok.marks.items ≡ marks_of xs us) × HasKeys c.add_all.new.keys (xs ++ new_ones xs us)) c.tasks-2.ensures (c.in-Ok.ensures.marked xs its)) in
     let chose : chosen into.result.0.items c.in-Ok.marks.items ≡ new_ones posted ts = ap (λ us. chosen us c.in-Ok.marks.items) into.ensures.tasks ∙ chosen_new posted ts c.in-Ok.marks.items marked.0 in
     let known : c.post.new.self ≡ with_posted i.known (new_ones posted ts) (record { due = c.args.board.due; open_runs = c.args.board.open_runs }) =
@@ -130,4 +129,4 @@ returns-in-Err-clause-keys g c = rest_same c.args.keys.now c.args.me.was c.args.
 pub returns-in-Err-add_all-clause-keys : goal.returns-in-Err-add_all-clause-keys
 returns-in-Err-add_all-clause-keys g c =
     let seen = c.see-me.result.was in
-    still_alike (over_in seen.last) c.args.keys.now c.add_all.new.keys seen.posted c.in-Err-add_all.ensures.refused (rest_same c.args.keys.now c.args.me.was c.args.me.was seen refl (c.see-me.ensures.part c.requires.seat.1) c.requires.keys)
+    still_alike seen.gone c.args.keys.now c.add_all.new.keys seen.posted c.in-Err-add_all.ensures.refused (rest_same c.args.keys.now c.args.me.was c.args.me.was seen refl (c.see-me.ensures.part c.requires.seat.1) c.requires.keys)
