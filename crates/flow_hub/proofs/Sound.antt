@@ -1,5 +1,5 @@
 -- Each call keeps the hall sound.
-use Rattle.std.proofs.Common.{◌≡◌, ℕ, suc, ◌+◌, ◌≤◌, ◌<◌, true, List, [], ◌∷◌, ◌++◌, length, map, refl, ap, sym, ◌∙◌, subst, arith, length-append, append_assoc, Option, Some, None, slice_get, take, drop}
+use Rattle.std.proofs.Common.{◌≡◌, ℕ, suc, ◌+◌, ◌≤◌, ◌<◌, Bool, true, false, List, [], ◌∷◌, ◌++◌, length, map, refl, ap, sym, ◌∙◌, subst, arith, length-append, append_assoc, Option, Some, None, slice_get, take, drop}
 use Rattle.std.specs.Prelude.{All}
 use Rattle.std.proofs.lemmas.List.{append-nil}
 use Rattle.std.proofs.lemmas.List.Elements.{All-append, All-weaker, All-push, All-head, All-tail, All-nil, All-cons, All-take, All-drop}
@@ -26,7 +26,7 @@ use Rattle.flow_hub.specs.Publishing.{Answers, HasTaken, HasPublished, HasRefuse
 use Rattle.flow_queues.proofs.Once.{still_once}
 use Rattle.flow_hub.proofs.Lists.{map-both, length-mapped, from_same, long_same, count_from-next, count_split, rises_higher, rises_on, rises_without, tickets_same, get_front, get_next, stands_on, stand_next}
 
-pub begins_sound : IsSound (record { known = nothing; waiting = []; answered = []; refused = []; given = 0; shares = 0; tasks = [] })
+pub begins_sound : IsSound (record { known = nothing; waiting = []; answered = []; refused = []; given = 0; shares = 0; tasks = []; rung = false })
 begins_sound = record {
   legal = record { kept = refl; rising = omega arith };
   order = refl;
@@ -456,6 +456,26 @@ posts h ts outlook s = record {
   told = s.told;
   queued = ap (λ l. l ++ new_ones h.known.posted ts) s.queued ∙ append_assoc h.known.given h.tasks (new_ones h.known.posted ts);
   once = still_once h.known.posted ts s.once;
+  rises = s.rises;
+  gone_rises = s.gone_rises;
+}
+
+pub rung_still : (h : Hall) (b : Bool) → IsSound h → IsSound (record h { rung = b })
+rung_still h b s = record {
+  legal = s.legal;
+  order = s.order;
+  counts = s.counts;
+  shared = s.shared;
+  asked = s.asked;
+  fetched = s.fetched;
+  taken = s.taken;
+  pending = s.pending;
+  own = s.own;
+  gone = s.gone;
+  stand = s.stand;
+  told = s.told;
+  queued = s.queued;
+  once = s.once;
   rises = s.rises;
   gone_rises = s.gone_rises;
 }

@@ -1,6 +1,6 @@
 -- What lies under the lock, as plain data.
-use Rattle.std.specs.Prelude.{ℕ, ◌+◌, ◌≡◌, List, [], ◌∷◌, ◌++◌, length, map, All, Result, Ok, Err, Some, slice_get, remove, refl}
-use Rattle.std.specs.Coded.{Coded, code_by, coded×, coded_ℕ}
+use Rattle.std.specs.Prelude.{ℕ, ◌+◌, ◌≡◌, Bool, true, false, List, [], ◌∷◌, ◌++◌, length, map, All, Result, Ok, Err, Some, slice_get, remove, refl}
+use Rattle.std.specs.Coded.{Coded, code_by, coded×, coded_ℕ, coded_bool}
 use Rattle.flow_base.specs.declared.code.Code.{Code}
 use Rattle.flow_base.specs.declared.fault.Fault.{Fault}
 use Rattle.flow_base.specs.declared.command.Command.{Command}
@@ -10,6 +10,8 @@ use Rattle.flow_base.specs.declared.task.Task.{Task}
 use Rattle.flow_commit.specs.Accounts.{log_code}
 use Rattle.flow_commit.specs.Stamps.{Stamped}
 use Rattle.flow_commit.specs.Keeping.{batch_code, count_from}
+use Rattle.flow_hub.specs.declared.fed.Until.{Until}
+use Rattle.flow_hub.specs.declared.fed.Until.TheVariants as until
 use Rattle.flow_hub.specs.declared.known.HubFacts.{HubFacts}
 use Rattle.flow_hub.specs.declared.known.BoardSummary.{BoardSummary}
 use Rattle.flow_queues.specs.declared.refused.Refused.{Refused}
@@ -18,8 +20,8 @@ use Rattle.flow_queues.specs.Refusing.{refused_by}
 use Rattle.flow_hub.specs.Knowing.{IsHistory, answered_in, known_code, refusals_code, task_list_code, with_ask, with_taken, with_published, with_refused, with_fetched, with_member, with_closed, with_ended, with_posted, with_skipped, with_given}
 use Rattle.flow_queues.specs.Posting.{IsOnce, new_ones}
 
--- What is known of the hub, and the four lists that its calls work on: what waits, the answers that were not fetched, and the tasks that
--- were posted and not given out.
+-- What is known of the hub, the four lists that its calls work on (what waits, the answers that were not fetched, and the tasks that were
+-- posted and not given out), and whether somebody rang.
 pub record Hall : Type 0 where
   pub known : HubFacts
   pub waiting : List Taken
@@ -28,13 +30,14 @@ pub record Hall : Type 0 where
   pub given : ℕ  -- how many tickets were given
   pub shares : ℕ  -- the sum of the submitters' shares
   pub tasks : List Task
+  pub rung : Bool  -- whether somebody rang for who gives tasks out, and was not heard yet
 
 abbrev pub hall_code : Coded Hall
 hall_code =
-    code_by (HubFacts × (List Taken × (List Receipt × (List Refused × (ℕ × (ℕ × List Task))))))
-    (coded× known_code (coded× batch_code (coded× log_code (coded× refusals_code (coded× coded_ℕ (coded× coded_ℕ task_list_code))))))
-    (λ h. (h.known, (h.waiting, (h.answered, (h.refused, (h.given, (h.shares, h.tasks)))))))
-    (λ p. record { known = p.0; waiting = p.1.0; answered = p.1.1.0; refused = p.1.1.1.0; given = p.1.1.1.1.0; shares = p.1.1.1.1.1.0; tasks = p.1.1.1.1.1.1 })
+    code_by (HubFacts × (List Taken × (List Receipt × (List Refused × (ℕ × (ℕ × (List Task × Bool)))))))
+    (coded× known_code (coded× batch_code (coded× log_code (coded× refusals_code (coded× coded_ℕ (coded× coded_ℕ (coded× task_list_code coded_bool)))))))
+    (λ h. (h.known, (h.waiting, (h.answered, (h.refused, (h.given, (h.shares, (h.tasks, h.rung))))))))
+    (λ p. record { known = p.0; waiting = p.1.0; answered = p.1.1.0; refused = p.1.1.1.0; given = p.1.1.1.1.0; shares = p.1.1.1.1.1.0; tasks = p.1.1.1.1.1.1.0; rung = p.1.1.1.1.1.1.1 })
     (λ _. refl)
 
 -- submissions whose answer was not fetched
@@ -110,3 +113,17 @@ skipped h f = record h { known = with_skipped h.known f }
 -- a task is given out, and the rest waits on
 abbrev pub gave : Hall → Task → List Task → Hall
 gave h t rest = record h { known = with_given h.known t; tasks = rest }
+
+-- somebody rang
+abbrev pub rings : Hall → Hall
+rings h = record h { rung = true }
+
+-- and was heard: whoever rings later is heard anew
+abbrev pub hears : Hall → Hall
+hears h = record h { rung = false }
+
+-- Who looks for a ring has heard it, and nobody else changes anything by looking.
+abbrev pub looks : Until → Hall → Hall
+looks until.There h = h
+looks until.Rung h = hears h
+looks until.Boarded h = h

@@ -61,7 +61,7 @@ fn given<B: Room, R: Wait>(
         if state.has_come(until) {
             return (me, Fed::Nothing);
         }
-        state = shared.posted.wait(rt, state);
+        state = shared.waits.posted.wait(rt, state);
     }
     unreachable!()
 }

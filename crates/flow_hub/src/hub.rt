@@ -7,27 +7,20 @@ use crate::denied::Unseated;
 use crate::feed::Feed;
 use crate::publisher::Publisher;
 use crate::seats::{HubTable, Opened, Pass, Room};
-use crate::state::{MOST, State};
+use crate::state::{MOST, Rung, State};
 use crate::submitter::Submitter;
 use crate::waits::Waits;
 use flow_base::memory::NoMemory;
 use std::alloc::{AllocError, Global};
 use std::marker::Model;
-use std::sync::{Arc, Condvar, Mutex, MutexGuard, Wait};
+use std::sync::{Arc, Mutex, MutexGuard, Wait};
 
 /// What the threads of a hub share.
 #[derive(Drop)]
 pub(crate) struct Shared<B: Room> {
     pub(crate) seats: HubTable<B>,
     pub(crate) state: Mutex<State<B>>,
-    /// Told when something waits, and at closing.
-    pub(crate) asked: Condvar,
-    /// Told when something was answered, by ticket.
-    pub(crate) answered: Waits,
-    /// Told when a board was posted or skipped, when somebody rings, and at closing.
-    pub(crate) posted: Condvar,
-    /// Told when a board was posted, and at closing.
-    pub(crate) turned: Condvar,
+    pub(crate) waits: Waits,
 }
 
 /// What is shared, by one who has a part in it.
@@ -39,14 +32,6 @@ impl<B: Room> Shared<B> {
     /// Waits for the lock.
     pub(crate) fn lock<R: Wait>(&self, rt: &R) -> MutexGuard<'_, State<B>> {
         self.state.lock(rt)
-    }
-
-    /// Wakes all who wait.
-    pub(crate) fn wake(&self) {
-        self.asked.notify_all();
-        self.answered.tell_all();
-        self.posted.notify_all();
-        self.turned.notify_all();
     }
 }
 
@@ -96,10 +81,7 @@ impl<B: Room> Hub<B> {
         let shared = Shared {
             seats,
             state: Mutex::new(state),
-            asked: Condvar::new(),
-            answered: Waits::new(),
-            posted: Condvar::new(),
-            turned: Condvar::new(),
+            waits: Waits::new(),
         };
         let shared = Arc::new(alloc, shared)?;
         let publisher = Publisher::over(alloc, Arc::try_clone(&shared)?, seat);
@@ -149,10 +131,11 @@ impl<B: Room> Hub<B> {
     }
 
     /// Wakes whoever gives tasks out, where it listens (`Feed::listen`): there is something else to be done.
-    pub fn ring<R: Wait>(&self, rt: &R) {
+    pub fn ring<R: Wait>(&self, rt: &R) -> Rung {
         let shared = shared_in(&self.shared);
-        shared.lock(rt).ring();
-        shared.posted.notify_all();
+        let (rung, wake) = shared.lock(rt).ring();
+        shared.waits.wake_giver(wake);
+        rung
     }
 
     /// Nothing more is taken in, what waits is still taken, and who waits is woken.
@@ -161,8 +144,8 @@ impl<B: Room> Hub<B> {
     {
         let shared = shared_in(&self.shared);
         let me = shared.seats.enter();
-        let seat = shared.lock(rt).close(&shared.seats, me, &self.closer);
-        shared.wake();
+        let (seat, wake) = shared.lock(rt).close(&shared.seats, me, &self.closer);
+        shared.waits.wake_all(wake);
         SeenClosed { seat }
     }
 

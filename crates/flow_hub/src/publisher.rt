@@ -11,7 +11,6 @@ use crate::feed::Feed;
 use crate::hub::{Shared, shared_in};
 use crate::seats::{Pass, Room};
 use crate::submitter::Submitter;
-use crate::waits::{told_by, told_of};
 use flow_base::code::Code;
 use flow_base::fault::Fault;
 use flow_base::submission::{Receipt, Taken};
@@ -80,7 +79,7 @@ fn taken<B: Room, R: Wait>(
         if state.is_closed() {
             return (me, false);
         }
-        state = shared.asked.wait(rt, state);
+        state = shared.waits.asked.wait(rt, state);
     }
     unreachable!()
 }
@@ -131,11 +130,11 @@ impl<B: Room> Publisher<B> {
         ensures grows { IsBefore self.old self.new }
     {
         let_go(&mut self.keys, stamp.closed());
-        let told = told_by(receipts.as_slice());
         let shared = shared_in(&self.shared);
         let me = shared.seats.leave(&mut self.seat);
-        self.seat = shared.lock(rt).publish(&shared.seats, me, receipts, stamp);
-        shared.answered.tell(&told);
+        let (me, wake) = shared.lock(rt).publish(&shared.seats, me, receipts, stamp);
+        self.seat = me;
+        shared.waits.wake_answered(wake);
     }
 
     /// Answers all that was taken by a code.
@@ -144,11 +143,11 @@ impl<B: Room> Publisher<B> {
         ensures refused { HasRefused self.old self.new all.items code }
         ensures grows { IsBefore self.old self.new }
     {
-        let told = told_of(all.as_slice());
         let shared = shared_in(&self.shared);
         let me = shared.seats.leave(&mut self.seat);
-        self.seat = shared.lock(rt).refuse(&shared.seats, me, all, code);
-        shared.answered.tell(&told);
+        let (me, wake) = shared.lock(rt).refuse(&shared.seats, me, all, code);
+        self.seat = me;
+        shared.waits.wake_answered(wake);
     }
 
     /// Posts those of a board's tasks that it hasn't posted before, for those who give them out, and what the board says beside. By
@@ -170,12 +169,13 @@ impl<B: Room> Publisher<B> {
             .lock(rt)
             .post(self.alloc, &shared.seats, me, &mut self.keys, board);
         self.seat = me;
-        if let Err(refused) = answer {
-            return Err(refused);
+        match answer {
+            Ok(wake) => {
+                shared.waits.wake_by_board(wake);
+                Ok(())
+            }
+            Err(refused) => Err(refused),
         }
-        shared.posted.notify_all();
-        shared.turned.notify_all();
-        Ok(())
     }
 
     /// The keys of what it has posted and may come again: of all but what is of runs that are gone, of which it has none.
@@ -192,8 +192,9 @@ impl<B: Room> Publisher<B> {
     {
         let shared = shared_in(&self.shared);
         let me = shared.seats.leave(&mut self.seat);
-        self.seat = shared.lock(rt).skip(&shared.seats, me, fault);
-        shared.posted.notify_all();
+        let (me, wake) = shared.lock(rt).skip(&shared.seats, me, fault);
+        self.seat = me;
+        shared.waits.wake_giver(wake);
     }
 
     /// Nothing more is taken in, and what waits is still taken. That it was the publisher who has closed it stays known.
@@ -204,8 +205,9 @@ impl<B: Room> Publisher<B> {
     {
         let shared = shared_in(&self.shared);
         let me = shared.seats.leave(&mut self.seat);
-        self.seat = shared.lock(rt).end(&shared.seats, me);
-        shared.wake();
+        let (me, wake) = shared.lock(rt).end(&shared.seats, me);
+        self.seat = me;
+        shared.waits.wake_all(wake);
     }
 
     /// Takes back a submitter, and whoever gave tasks out. What they have seen is a beginning of what is so now.

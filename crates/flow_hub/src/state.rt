@@ -7,6 +7,7 @@ ghost use Rattle.flow_hub.specs.Seating.{opener, seeing, IsSubmitters, IsPublish
 ghost use Rattle.flow_hub.specs.Halls.{HandsOut, submitted, took, published, refused_all, fetched_receipt, fetched_refusal, enrolled, closed, ended, new_ask, unfetched};
 ghost use Rattle.flow_hub.specs.Publishing.{Answers, HasTaken, HasPublished, HasRefused, HasEnded, IsAllTaken, IsDone, TakesAll};
 ghost use Rattle.flow_hub.specs.Submitting.{HasTakenIn, IsFetched, IsOpen, IsDenied, IsSettled};
+ghost use Rattle.flow_hub.specs.Waking.{Wakes};
 
 mod boards;
 
@@ -16,6 +17,7 @@ use crate::known::HubFacts;
 use crate::seats::{HubTable, Named, PARTS, Pass, Room};
 use crate::settled::Settled;
 use crate::unfetched::{refused_at, ticket_at};
+use crate::waits::{WakeAll, WakeAnswered, WakeTaker, told_by, told_of};
 use flow_base::code::Code;
 use flow_base::command::Command;
 use flow_base::submission::{Receipt, Taken};
@@ -41,6 +43,13 @@ pub struct AllGiven {
     made: (),
 }
 
+/// That somebody rang for whoever gives tasks out. Its field is this module's, and the locked state alone makes one, so a call that gives
+/// it has rung.
+#[derive(Clone, Copy, Debug, PartialEq, Eq)]
+pub struct Rung {
+    made: (),
+}
+
 /// What lies under the lock: submissions by what became of them, each list with its room, and what is known of them.
 #[derive(Drop)]
 pub(crate) struct State<B: Room> {
@@ -59,7 +68,7 @@ pub(crate) struct State<B: Room> {
     codes: u64,
     /// Tasks that were posted and not given out.
     tasks: VecDeque<Task>,
-    /// Whether somebody rang for whoever gives tasks out. No contract speaks of it.
+    /// Whether somebody rang for whoever gives tasks out, and wasn't heard yet.
     rung: bool,
     tickets: Book<B>,
     /// The ledger's parts of the submitters that were not given yet.
@@ -83,9 +92,9 @@ impl<B: Room> Model for State<B> {
 
     ghost coded = { hall_code };
 
-    ghost view = { λ s. record { known = s.known; waiting = s.waiting.items; answered = s.answered.items; refused = s.refused.items; given = s.given; shares = s.tickets.total; tasks = s.tasks.items } };
+    ghost view = { λ s. record { known = s.known; waiting = s.waiting.items; answered = s.answered.items; refused = s.refused.items; given = s.given; shares = s.tickets.total; tasks = s.tasks.items; rung = s.rung } };
 
-    ghost invariant = { λ s. IsSound (record { known = s.known; waiting = s.waiting.items; answered = s.answered.items; refused = s.refused.items; given = s.given; shares = s.tickets.total; tasks = s.tasks.items })
+    ghost invariant = { λ s. IsSound (record { known = s.known; waiting = s.waiting.items; answered = s.answered.items; refused = s.refused.items; given = s.given; shares = s.tickets.total; tasks = s.tasks.items; rung = s.rung })
         × (s.held ≡ length s.known.held) × (s.places ≡ length s.known.history) × (s.codes ≡ length s.known.refused)
         × (1024 ≤ deque_capacity s.waiting) × (1024 ≤ vec_capacity s.answered) × (1024 ≤ vec_capacity s.refused)
         × (deque_len s.waiting + s.held + vec_len s.answered + vec_len s.refused ≤ 1024) × (s.given ≤ 2 ^ 62)
@@ -104,7 +113,7 @@ impl<B: Room> State<B> {
         requires share { (named.share.parts ≡ 2 ^ 62) × (named.share.amount ≡ 0) }
         requires parts { B.parts ≡ 2 ^ 62 }
         ensures seat { IfOk result (λ r. r.2 ≡ seeing true false 0 nothing) }
-        ensures empty { IfOk result (λ r. r.1 ≡ record { known = nothing; waiting = []; answered = []; refused = []; given = 0; shares = 0; tasks = [] }) }
+        ensures empty { IfOk result (λ r. r.1 ≡ record { known = nothing; waiting = []; answered = []; refused = []; given = 0; shares = 0; tasks = []; rung = false }) }
     {
         let Named {
             seats,
@@ -221,17 +230,17 @@ impl<B: Room> State<B> {
         None
     }
 
-    /// The ticket, or the command back.
+    /// The ticket, and whoever takes what waits is to be woken; or the command back.
     pub(crate) fn submit(
         &mut self,
         seats: &HubTable<B>,
         me: Pass<B>,
         mine: &mut Share<B>,
         command: Command,
-    ) -> (Pass<B>, Result<u64, (Command, Denied)>)
+    ) -> (Pass<B>, Result<(u64, WakeTaker), (Command, Denied)>)
         requires share { 0 < mine.old.parts }
         requires seat { IsSubmitters me }
-        ensures ok { IfOk result.1 (λ t. (t ≡ self.old.given) × (self.new ≡ submitted self.old command)
+        ensures ok { IfOk result.1 (λ t. (t.0 ≡ self.old.given) × (self.new ≡ submitted self.old command)
             × (mine.new.amount ≡ mine.old.amount + 1)) }
         ensures room { OnOk result.1 (IsOpen self.old.known × (unfetched self.old < 1024)) }
         ensures taken_in { OnOk result.1 (HasTakenIn result.0.was) }
@@ -243,8 +252,8 @@ impl<B: Room> State<B> {
         ensures owed_still { OnErr result.1 (result.0.owed ≡ me.owed) }
         ensures before { IsBefore me.was self.old.known }
         ensures grows { IsBefore me.was result.0.was }
-        ensures ticket { IfOk result.1 (λ t. (length me.was.asked ≤ t) × (length result.0.was.asked ≡ t + 1)
-            × (slice_get result.0.was.asked t ≡ Some (new_ask self.old command))) }
+        ensures ticket { IfOk result.1 (λ t. (length me.was.asked ≤ t.0) × (length result.0.was.asked ≡ t.0 + 1)
+            × (slice_get result.0.was.asked t.0 ≡ Some (new_ask self.old command))) }
     {
         if let Some(denied) = self.denied() {
             return (self.see(seats, me), Err((command, denied)));
@@ -256,7 +265,7 @@ impl<B: Room> State<B> {
         self.waiting.push_back_reserved(taken);
         self.tickets.add(mine, 1);
         self.given += 1;
-        (me, Ok(ticket))
+        (me, Ok((ticket, WakeTaker::due())))
     }
 
     /// The first that wait, as many as there are, and `most` at most.
@@ -286,22 +295,24 @@ impl<B: Room> State<B> {
         seats.tell(&mut self.keeper, me, self.places, self.places, &self.known)
     }
 
-    /// Answers all that was taken. What the publisher must show it shows of its own seat.
+    /// Answers all that was taken, and all who wait for that are to be woken. What the publisher must show it shows of its own seat.
     pub(crate) fn publish(
         &mut self,
         seats: &HubTable<B>,
         me: Pass<B>,
         receipts: Vec<Receipt>,
         stamp: Stamp,
-    ) -> Pass<B>
+    ) -> (Pass<B>, WakeAnswered)
         requires seat { IsPublishers me }
         requires answers { Answers me.was stamp receipts.items }
         ensures published { self.new ≡ published self.old stamp receipts.items }
-        ensures seat { result ≡ seeing true false 0 self.new.known }
-        ensures seen { HasPublished me.was result.was stamp receipts.items }
-        ensures grows { IsBefore me.was result.was }
-        ensures legal { IsHistory result.was }
+        ensures seat { result.0 ≡ seeing true false 0 self.new.known }
+        ensures seen { HasPublished me.was result.0.was stamp receipts.items }
+        ensures grows { IsBefore me.was result.0.was }
+        ensures legal { IsHistory result.0.was }
+        ensures wakes { All (λ r. Wakes result.1.told r.ticket) receipts.items }
     {
+        let wake = told_by(receipts.as_slice());
         let old = self.places;
         // That the stamp is over what the last one was over the publisher has shown of what its seat knows.
         let seen = seats.tell(&mut self.keeper, me, old, old, &self.known);
@@ -311,30 +322,32 @@ impl<B: Room> State<B> {
         let me = seats.tell(&mut self.keeper, seen, old, self.places, &self.known);
         self.held = 0;
         push_receipts(&mut self.answered, receipts);
-        me
+        (me, wake)
     }
 
-    /// Answers all that was taken by a code.
+    /// Answers all that was taken by a code, and all who wait for that are to be woken.
     pub(crate) fn refuse(
         &mut self,
         seats: &HubTable<B>,
         me: Pass<B>,
         all: Vec<Taken>,
         code: Code,
-    ) -> Pass<B>
+    ) -> (Pass<B>, WakeAnswered)
         requires seat { IsPublishers me }
         requires all { all.items ≡ me.was.held }
         ensures refused { self.new ≡ refused_all self.old code }
-        ensures seat { result ≡ seeing true false 0 self.new.known }
-        ensures seen { HasRefused me.was result.was all.items code }
-        ensures grows { IsBefore me.was result.was }
+        ensures seat { result.0 ≡ seeing true false 0 self.new.known }
+        ensures seen { HasRefused me.was result.0.was all.items code }
+        ensures grows { IsBefore me.was result.0.was }
+        ensures wakes { All (λ t. Wakes result.1.told t.ticket) all.items }
     {
+        let wake = told_of(all.as_slice());
         self.codes += all.len() as u64;
         self.known.refuse(&all, code);
         let me = seats.tell(&mut self.keeper, me, self.places, self.places, &self.known);
         self.held = 0;
         refuse_all(&mut self.refused, all, code);
-        me
+        (me, wake)
     }
 
     /// The receipt for a ticket, if it came. The answer is one that is owed to the seat.
@@ -473,28 +486,35 @@ impl<B: Room> State<B> {
         (me, Some(settled))
     }
 
-    /// What waits is still taken, and nothing more is taken in. Whoever closes must have the right to: else each call that may answer
-    /// that the hub is closed could close it first.
-    pub(crate) fn close(&mut self, seats: &HubTable<B>, me: Pass<B>, _closer: &Closer) -> Pass<B>
+    /// What waits is still taken, nothing more is taken in, and all who wait are to be woken. Whoever closes must have the right to: else
+    /// each call that may answer that the hub is closed could close it first.
+    pub(crate) fn close(
+        &mut self,
+        seats: &HubTable<B>,
+        me: Pass<B>,
+        _closer: &Closer,
+    ) -> (Pass<B>, WakeAll)
         ensures closed { self.new ≡ closed self.old }
-        ensures seat { result ≡ seeing me.pubs me.gives me.owed self.new.known }
-        ensures grows { IsBefore me.was result.was }
-        ensures part { me.pubs ≡ true → IsSamePart me.was result.was }
+        ensures seat { result.0 ≡ seeing me.pubs me.gives me.owed self.new.known }
+        ensures grows { IsBefore me.was result.0.was }
+        ensures part { me.pubs ≡ true → IsSamePart me.was result.0.was }
     {
         self.known.closed = true;
-        seats.tell(&mut self.keeper, me, self.places, self.places, &self.known)
+        let seat = seats.tell(&mut self.keeper, me, self.places, self.places, &self.known);
+        (seat, WakeAll::due())
     }
 
     /// The same by the publisher, whose right to it is its seat, and of which it stays known that it was the publisher.
-    pub(crate) fn end(&mut self, seats: &HubTable<B>, me: Pass<B>) -> Pass<B>
+    pub(crate) fn end(&mut self, seats: &HubTable<B>, me: Pass<B>) -> (Pass<B>, WakeAll)
         requires seat { IsPublishers me }
         ensures ended { self.new ≡ ended self.old }
-        ensures seat { result ≡ seeing true false 0 self.new.known }
-        ensures seen { HasEnded me.was result.was }
-        ensures grows { IsBefore me.was result.was }
+        ensures seat { result.0 ≡ seeing true false 0 self.new.known }
+        ensures seen { HasEnded me.was result.0.was }
+        ensures grows { IsBefore me.was result.0.was }
     {
         self.known.finish();
-        seats.tell(&mut self.keeper, me, self.places, self.places, &self.known)
+        let seat = seats.tell(&mut self.keeper, me, self.places, self.places, &self.known);
+        (seat, WakeAll::due())
     }
 
     /// Whether nothing more is taken in.

@@ -84,7 +84,7 @@ fn awaited<B: Room, R: Wait>(
         if let Some(answer) = answer {
             return (me, answer);
         }
-        state = shared.answered.of(ticket).wait(rt, state);
+        state = shared.waits.of(ticket).changed.wait(rt, state);
     }
     unreachable!()
 }
@@ -168,7 +168,7 @@ fn ticked<B: Room, R: Wait + Timing, C: Clock>(
         match tick_or_pause(due, clock) {
             Ok(tick) => return (me, Some(tick)),
             Err(pause) => {
-                let (guard, end) = shared.turned.wait_timeout(rt, state, pause);
+                let (guard, end) = shared.waits.turned.wait_timeout(rt, state, pause);
                 state = guard;
                 paused = end.timed_out();
             }
@@ -196,7 +196,7 @@ fn rested<B: Room, R: Wait>(rt: &R, shared: &Shared<B>, seat: Pass<B>) -> (Pass<
             Rested::Closed => return (me, false),
             Rested::NotYet(_outlook) => {}
         }
-        state = shared.turned.wait(rt, state);
+        state = shared.waits.turned.wait(rt, state);
     }
     unreachable!()
 }
@@ -217,7 +217,7 @@ fn rested_for<B: Room, R: Wait + Timing>(
     let mut state = shared.lock(rt);
     let (me, rest) = state.rest(&shared.seats, seat);
     if let Rested::NotYet(_outlook) = rest {
-        let (mut state, _end) = shared.turned.wait_timeout(rt, state, pause);
+        let (mut state, _end) = shared.waits.turned.wait_timeout(rt, state, pause);
         let (me, rest) = state.rest(&shared.seats, me);
         return (me, rest);
     }
@@ -304,9 +304,9 @@ impl<B: Room> Submitter<B> {
             .lock(rt)
             .submit(&shared.seats, me, &mut self.share, command);
         self.seat = me;
-        let number = answer?;
+        let (number, wake) = answer?;
         self.unfetched.push_reserved(number);
-        shared.asked.notify_one();
+        shared.waits.wake_taker(wake);
         Ok(Ticket::given(number, self.id))
     }
 

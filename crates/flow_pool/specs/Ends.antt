@@ -1,7 +1,7 @@
 -- What the ends of the channel of tasks know.
 use Rattle.std.specs.Prelude.{ℕ, ◌≡◌, List}
 use Rattle.crossbeam_channel.specs.Claims.{view}
-use Rattle.crossbeam_channel.specs.Ends.{sends_on, receives_on}
+use Rattle.crossbeam_channel.specs.Ends.{sends_on, receives_on, ruled_capacity}
 use Rattle.flow_base.specs.declared.task.Task.{Task}
 use Rattle.flow_pool.specs.declared.hand.Back.{Back}
 use Rattle.flow_pool.specs.declared.hand.Hand.{Hand}
@@ -25,6 +25,10 @@ back_at s = (view s.pass).back
 -- all that came back, since no worker was left
 abbrev pub came_back : TaskSender → List Task
 came_back s = s.returned
+
+-- how many tasks wait there for a worker at most
+abbrev pub room_of : TaskSender → ℕ
+room_of s = ruled_capacity (sends_on s.end)
 
 -- what a worker knows: its number, and all that it has taken
 abbrev pub known_by : {E : Type 0} → TaskReceiver E → Hand

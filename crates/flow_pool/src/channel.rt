@@ -2,7 +2,7 @@
 //! beginning of what was put, and each of it was taken by one worker.
 ghost use Rattle.std.specs.Prelude.{◌≡◌, [], ◌∷◌, ◌++◌, ◌+◌, ◌<◌, IfOk, IfErr, IfNone, OnOk, OnErr, MatchOption};
 ghost use Rattle.flow_pool.specs.Orders.{back_of, Delivers, WasEmpty};
-ghost use Rattle.flow_pool.specs.Ends.{put_by, made_by, back_at, came_back, known_by, number_of, taken_by, AreOne, IsOpenTo, IsSameEnd, IsSameFeed};
+ghost use Rattle.flow_pool.specs.Ends.{put_by, made_by, back_at, came_back, known_by, number_of, room_of, taken_by, AreOne, IsOpenTo, IsSameEnd, IsSameFeed};
 
 use crate::ends::{Door, TaskReceiver, TaskSender, receiver, sender, with_task};
 use crate::hand::{AddsWorker, Learnt, Puts, Returns, Takes, Tells};
@@ -15,7 +15,8 @@ use std::sync::Wait;
 /// A channel that holds so many tasks, from 1.
 pub fn opened(alloc: Global, most: usize) -> Result<(TaskSender, Door), AllocError>
     requires { 0 < most }
-    ensures { IfOk result (λ r. IsOpenTo r.0 r.1 × (put_by r.0 ≡ []) × (made_by r.0 ≡ 0) × (back_at r.0 ≡ []) × (came_back r.0 ≡ [])) }
+    ensures { IfOk result (λ r. IsOpenTo r.0 r.1 × (put_by r.0 ≡ []) × (made_by r.0 ≡ 0) × (back_at r.0 ≡ []) × (came_back r.0 ≡ [])
+        × (room_of r.0 ≡ most)) }
 {
     let (end, from, pass) = bounded_with(alloc, most)?;
     Ok((sender(end, pass), Door { end: from }))

@@ -9,6 +9,7 @@ use Rattle.flow_hub.specs.Knowing.{IsBefore}
 use Rattle.flow_hub.specs.Submitting.{Member}
 use Rattle.flow_pool.specs.declared.report.Unheard.{Unheard}
 use Rattle.flow_pool.specs.Reports.{Heard, Telling, came_of, is_final}
+use Rattle.flow_timers.specs.Pausing.{pause_after}
 use Rattle.flow_work.specs.Hearing.{IsHeard}
 
 -- What was told is a tick, at a moment that the clock told, that fires what was due by what its submitter had seen then, and what came of it is so by what it saw behind
@@ -27,6 +28,15 @@ pub record IsFired (tells : ℕ → Type 0) (now : HubFacts) (told : Telling) : 
 abbrev pub is_last : Heard → Bool
 is_last (Ok reply) = false
 is_last (Err unheard) = is_final unheard
+
+-- it was answered by a reply
+abbrev pub is_replied : Heard → Bool
+is_replied (Ok reply) = true
+is_replied (Err unheard) = false
+
+-- Behind one more that was told the pause begins anew if that had a reply; if not, it was slept for, and is longer.
+abbrev pub Pauses : (was now : List Telling) → (before after : ℕ) → Type 0
+Pauses was now before after = (told : Telling) × (now ≡ was ++ told ∷ []) × (after ≡ pause_after (is_replied told.1) before)
 
 -- it was fired, and more may be
 abbrev pub FiresOn : (ℕ → Type 0) → HubFacts → Telling → Type 0

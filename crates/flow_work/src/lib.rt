@@ -25,6 +25,7 @@ pub mod shown;
 pub mod skills;
 pub mod starting;
 pub mod status;
+mod stopping;
 pub mod tally;
 pub mod tasks;
 pub mod teller;

@@ -5,7 +5,7 @@ ghost use Rattle.flow_hub.specs.Feeding.{IsTickOf};
 ghost use Rattle.flow_hub.specs.Knowing.{IsBefore};
 ghost use Rattle.flow_pool.specs.Reports.{came_of};
 ghost use Rattle.flow_work.specs.Endings.{unheard_denied, unheard_why};
-ghost use Rattle.flow_work.specs.Firing.{FiresOne, is_last};
+ghost use Rattle.flow_work.specs.Firing.{FiresOne, Pauses, is_last, is_replied};
 ghost use Rattle.flow_work.specs.Hearing.{IsHeard};
 
 use crate::tally::Tally;
@@ -130,6 +130,16 @@ fn is_over(heard: &Heard) -> bool {
     }
 }
 
+/// Whether it is a reply.
+fn is_replied(heard: &Heard) -> bool
+    ensures { result ≡ is_replied (came_of heard.now) }
+{
+    match heard {
+        Ok(_reply) => true,
+        Err(_back) => false,
+    }
+}
+
 /// Whether nothing is answered any more behind it.
 fn is_last(heard: &Heard) -> bool
     ensures { result ≡ is_last (came_of heard.now) }
@@ -195,6 +205,7 @@ impl<B: Room> Reporter<B> {
         pause: &mut Pause,
     ) -> bool
         ensures fires { FiresOne (C.tells clock.now) self.new.submitter.was self.old.told self.new.told result }
+        ensures pauses { result ≡ true → Pauses self.old.told self.new.told pause.old pause.new }
         ensures grows { IsBefore self.old.submitter.was self.new.submitter.was }
     {
         let Some(tick) = self.next_tick(rt, clock) else {
@@ -202,7 +213,7 @@ impl<B: Room> Reporter<B> {
         };
         let heard = self.report(rt, tick);
         let ends = is_last(&heard);
-        let replied = heard.is_ok();
+        let replied = is_replied(&heard);
         drop(heard);
         if ends {
             return false;

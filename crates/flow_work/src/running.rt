@@ -19,6 +19,7 @@ use crate::owing::{Closing, Dispatching, ReadingLines, Timing, Working};
 use crate::progress::Progress;
 use crate::queue::Queue;
 use crate::skills::Skills;
+use crate::stopping::Stopper;
 use crate::tally::Tally;
 use crate::unknown::{Strangers, UnknownActivity};
 use crate::workers::{reporter, start_pool, unseated_fault};
@@ -86,7 +87,7 @@ pub(crate) fn open_lines<B: Room, R: Wait>(
 /// Who answers lines, the end by which it is told that no line is answered any more, and who reads.
 type Telling<B, I, W, C> = (
     Answering<B, W, C, Incoming>,
-    Sender<InputMessage>,
+    Stopper,
     ReadingLines<I, Handing>,
 );
 
@@ -142,7 +143,7 @@ where
     };
     let reading = start_reader(rt, alloc, reader, lines)?;
     let answering = start_desk(rt, answerer, clock)?;
-    Ok((answering, own_lines, reading))
+    Ok((answering, Stopper::new(own_lines), reading))
 }
 
 /// Starts who fires what is due.
@@ -486,10 +487,10 @@ where
         rt, alloc, &hub, reader, writer, terminal, unknown, settings, skills, clock, &group,
     ) {
         Ok((telling, crew)) => {
-            let (answering, own_lines, _reading) = telling;
+            let (answering, stopper, _reading) = telling;
             let served = serve_new(rt, engine, &mut publisher, &clock, settings.batch());
             // Who answers lines may wait for one, and none is answered any more.
-            let _ = own_lines.send(rt, InputMessage::Stopped);
+            stopper.stop(rt);
             let answered = answering.join(rt);
             group.wait(rt);
             let feed = feed_back(rt, crew);

@@ -13,12 +13,11 @@ use crate::desk::Desk;
 use crate::ended::{Ended, Served};
 use crate::giving::Incoming;
 use crate::handing::Ringing;
-use crate::input::InputMessage;
 use crate::owing::{Closing, ReadingLines, Timing};
 use crate::running::{Opening, begin, open_hub, open_lines, serve_new, start_timing};
+use crate::stopping::Stopper;
 use crate::teller::{Owed, Teller, start_teller};
 use crate::workers::feed_of;
-use crossbeam_channel::Sender;
 use crossbeam_utils::sync::WaitGroup;
 use flow_base::fault::Fault;
 use flow_engine::engine::Engine;
@@ -81,7 +80,7 @@ where
 /// due.
 type Telling<B, I, W, C> = (
     PromisedHandle<Closing<Told<B, W>, SeenClosed<B>, Incoming>, Owed<B, W, C, Incoming>>,
-    Sender<InputMessage>,
+    Stopper,
     ReadingLines<I, Ringing<B>>,
     Timing<B, C>,
 );
@@ -132,7 +131,7 @@ where
     };
     let reading = start_ringing(rt, alloc, reader, lines, its_hub)?;
     let telling = start_teller(rt, teller, clock)?;
-    Ok((telling, own_lines, reading, timing))
+    Ok((telling, Stopper::new(own_lines), reading, timing))
 }
 
 /// Starts all threads but the one that serves.
@@ -266,10 +265,10 @@ where
 {
     let (mut publisher, hub) = open_hub::<B>(alloc, opened)?;
     match start_all(rt, alloc, &hub, reader, writer, clock, &group) {
-        Ok((telling, own_lines, _reading, _timing)) => {
+        Ok((telling, stopper, _reading, _timing)) => {
             let served = serve_new(rt, engine, &mut publisher, &clock, settings.batch());
             // Who answers lines may have none, and none is answered any more.
-            let _ = own_lines.send(rt, InputMessage::Stopped);
+            stopper.stop(rt);
             let told = telling.join(rt);
             group.wait(rt);
             Ok(taken_back(rt, &mut publisher, told, served))

@@ -1,7 +1,7 @@
 //! What the locked state does with boards and with the tasks that are posted.
 ghost use Rattle.std.specs.Prelude.{◌≡◌, ◌⊎◌, false, true, ◌∷◌, ◌++◌, length, IfSome, IfErr, IfNone, IsErr, OnOk, OnErr, MatchOption, None, Some, IsTrue};
 ghost use mathlib.Core.List.{IsPrefix};
-ghost use Rattle.flow_hub.specs.Halls.{posted_on, skipped, gave};
+ghost use Rattle.flow_hub.specs.Halls.{posted_on, skipped, gave, rings, hears, looks};
 ghost use Rattle.flow_commit.specs.Over.{StayOver};
 ghost use Rattle.flow_hub.specs.Knowing.{IsBefore, IsSamePart, answered_in, nothing};
 ghost use Rattle.flow_queues.specs.Posting.{HasStill, IsOnce};
@@ -10,11 +10,12 @@ ghost use Rattle.flow_hub.specs.Ending.{HasCome, IsAwaited};
 ghost use Rattle.flow_hub.specs.Feeding.{HasGiven, IsIdle, IsRested, due_in};
 ghost use Rattle.flow_hub.specs.Seating.{seeing, IsGivers, IsPublishers, IsSubmitters};
 
-use super::State;
+use super::{Rung, State};
 use crate::fed::Until;
 use crate::known::BoardSummary;
 use crate::rested::Rested;
 use crate::seats::{HubTable, Pass, Room};
+use crate::waits::{WakeByBoard, WakeGiver};
 use flow_base::fault::Fault;
 use flow_base::number::Moment;
 use flow_base::task::Task;
@@ -23,8 +24,8 @@ use flow_queues::posting::{Keys, add_all, push_marked};
 use std::alloc::{AllocError, Global};
 
 impl<B: Room> State<B> {
-    /// Posts those of the board's tasks that weren't posted before, and joins their keys to those of what was. Where room for them is
-    /// refused the board comes back, and nothing is posted.
+    /// Posts those of the board's tasks that weren't posted before, and joins their keys to those of what was: whoever waits for a
+    /// board is to be woken. Where room for them is refused the board comes back, and nothing is posted.
     pub(crate) fn post(
         &mut self,
         alloc: Global,
@@ -32,7 +33,7 @@ impl<B: Room> State<B> {
         me: Pass<B>,
         keys: &mut Keys,
         board: Board,
-    ) -> (Pass<B>, Result<(), (Board, AllocError)>)
+    ) -> (Pass<B>, Result<WakeByBoard, (Board, AllocError)>)
         requires seat { IsPublishers me }
         requires keys { HasStill me.was.gone keys.old me.was.posted }
         requires gone { StayOver me.was.gone board.over }
@@ -59,19 +60,25 @@ impl<B: Room> State<B> {
             .post(&tasks, &marks, BoardSummary { due, open_runs });
         let me = seats.tell(&mut self.keeper, me, self.places, self.places, &self.known);
         push_marked(&mut self.tasks, tasks, marks);
-        (me, Ok(()))
+        (me, Ok(WakeByBoard::due()))
     }
 
     /// No board this time, for this fault.
-    pub(crate) fn skip(&mut self, seats: &HubTable<B>, me: Pass<B>, fault: &Fault) -> Pass<B>
+    pub(crate) fn skip(
+        &mut self,
+        seats: &HubTable<B>,
+        me: Pass<B>,
+        fault: &Fault,
+    ) -> (Pass<B>, WakeGiver)
         requires seat { IsPublishers me }
         ensures skipped { self.new ≡ skipped self.old fault.now }
-        ensures seat { result ≡ seeing true false 0 self.new.known }
-        ensures seen { HasSkipped me.was result.was fault.now }
-        ensures grows { IsBefore me.was result.was }
+        ensures seat { result.0 ≡ seeing true false 0 self.new.known }
+        ensures seen { HasSkipped me.was result.0.was fault.now }
+        ensures grows { IsBefore me.was result.0.was }
     {
         self.known.skip(fault);
-        seats.tell(&mut self.keeper, me, self.places, self.places, &self.known)
+        let seat = seats.tell(&mut self.keeper, me, self.places, self.places, &self.known);
+        (seat, WakeGiver::due())
     }
 
     /// The seat that gives tasks out, where nobody has it yet.
@@ -104,15 +111,17 @@ impl<B: Room> State<B> {
     }
 
     /// Somebody has something else for whoever gives tasks out.
-    pub(crate) fn ring(&mut self)
-        ensures { self.new ≡ self.old }
+    pub(crate) fn ring(&mut self) -> (Rung, WakeGiver)
+        ensures { self.new ≡ rings self.old }
     {
         self.rung = true;
+        (Rung { made: () }, WakeGiver::due())
     }
 
     /// Whether somebody rang since this was asked last.
     pub(crate) fn was_rung(&mut self) -> bool
-        ensures { self.new ≡ self.old }
+        ensures rung { result ≡ self.old.rung }
+        ensures heard { self.new ≡ hears self.old }
     {
         let rung = self.rung;
         self.rung = false;
@@ -128,7 +137,7 @@ impl<B: Room> State<B> {
 
     /// Whether that has come with which a wait for a task may end.
     pub(crate) fn has_come(&mut self, until: Until) -> bool
-        ensures same { self.new ≡ self.old }
+        ensures looks { self.new ≡ looks until self.old }
         ensures come { result ≡ true → HasCome until self.old.known }
         ensures awaited { result ≡ false → IsAwaited until self.old.known }
     {

@@ -22,8 +22,8 @@ invariant_of-self g c = (
   search rules,
 )
 
-pub tell-requires-clause-may : goal.tell-requires-clause-may
-tell-requires-clause-may g c = inr (part_by c.self.inside.keeper.all c.self.inside.known _ _ c.self.invariant.13 refl (closes_part c.self.inside.known))
+pub tell-seat-requires-clause-may : goal.tell-seat-requires-clause-may
+tell-seat-requires-clause-may g c = inr (part_by c.self.inside.keeper.all c.self.inside.known _ _ c.self.invariant.13 refl (closes_part c.self.inside.known))
 
-pub tell-requires-clause-grows : goal.tell-requires-clause-grows
-tell-requires-clause-grows g c = grows_by c.self.inside.keeper.all c.self.inside.known _ _ c.self.invariant.13 refl (closes_on c.self.inside.known)
+pub tell-seat-requires-clause-grows : goal.tell-seat-requires-clause-grows
+tell-seat-requires-clause-grows g c = grows_by c.self.inside.keeper.all c.self.inside.known _ _ c.self.invariant.13 refl (closes_on c.self.inside.known)

@@ -24,12 +24,12 @@ invariant_of-self g c = (
   search rules,
 )
 
-pub tell-requires-clause-grows : goal.tell-requires-clause-grows
-tell-requires-clause-grows g c = grows_by c.self.inside.keeper.all c.self.inside.known _ c.finish.new.self c.self.invariant.13 c.finish.ensures (ends_on c.self.inside.known)
+pub tell-seat-requires-clause-grows : goal.tell-seat-requires-clause-grows
+tell-seat-requires-clause-grows g c = grows_by c.self.inside.keeper.all c.self.inside.known _ c.finish.new.self c.self.invariant.13 c.finish.ensures (ends_on c.self.inside.known)
 
 pub returns-clause-seen : goal.returns-clause-seen
 returns-clause-seen g c =
     let i = c.self.inside in
     let same : IsSamePart c.args.me.was i.known = search rules in
-    let was = was_of c.tell.result _ _ c.finish.new.self c.tell.ensures.told ∙ c.finish.ensures in
-    ended_by c.args.me.was c.tell.result.was _ was (has_ended i.known c.args.me.was same)
+    let was = was_of c.tell-seat.result _ _ c.finish.new.self c.tell-seat.ensures.told ∙ c.finish.ensures in
+    ended_by c.args.me.was c.tell-seat.result.was _ was (has_ended i.known c.args.me.was same)
