@@ -263,7 +263,8 @@ fn turn_away<B: Room, R: Wait + time::Clock>(
 /// waits by `Submitter::next_tick` brings within a minute.
 ///
 /// By the caller's condition the publisher has published what the engine has kept, as it is of an engine that has kept no
-/// batch since it was opened and a publisher that has published none.
+/// batch since it was opened and a publisher that has published none; and the runs whose keys it has let go of, if there are any,
+/// are over for this engine.
 ///
 /// # Failure
 /// E01 before anything is taken: the hub is closed, and all that waits is answered E85. Room for later lists is asked for
