@@ -67,7 +67,7 @@ seat_tasks (Some s) = s.head.tasks
 
 -- The runs of these numbers, as far as they are open.
 pub record KnowsOpen (m : OpenSeats) (rs : ℕ → Option Run) : Type 0 where
-  pub seats : (n : ℕ) → IsSeated (get nat_cmp m.seats n) (rs n)
+  pub by_run : (n : ℕ) → IsSeated (get nat_cmp m.by_run n) (rs n)
   pub flows : IsIndex m.flows (λ n. name_of open_key (rs n))
   pub due : HasSlots date_of_timer m.due (λ n. of_run timers_of (rs n))
   pub ready : HasSlots date_of_task m.ready (λ n. of_run tasks_of (rs n))
@@ -76,7 +76,7 @@ pub record KnowsOpen (m : OpenSeats) (rs : ℕ → Option Run) : Type 0 where
 pub record KnowsRuns (m : KnownRuns) (b : Book) : Type 0 where
   pub count : m.count ≡ length b.runs
   pub requests : IsIndex m.requests (λ n. name_of request_key (nth b.runs n))
-  pub open : KnowsOpen m.open (λ n. nth b.runs n)
+  pub seats : KnowsOpen m.seats (λ n. nth b.runs n)
 
 -- and of the signals that they have taken
 pub record Knows (f : Facts) (b : Book) : Type 0 where

@@ -24,7 +24,7 @@ use std::alloc::Global;
 pub struct KnownRuns {
     pub(crate) count: u64,
     pub(crate) requests: Index,
-    pub(crate) open: OpenSeats,
+    pub(crate) seats: OpenSeats,
 }
 
 impl KnownRuns {
@@ -34,7 +34,7 @@ impl KnownRuns {
         KnownRuns {
             count: 0,
             requests: Index::new(alloc),
-            open: OpenSeats::new(alloc),
+            seats: OpenSeats::new(alloc),
         }
     }
 
@@ -57,7 +57,7 @@ impl KnownRuns {
             return false;
         }
         self.count = run.get();
-        self.open.put(run, seat)
+        self.seats.put(run, seat)
     }
 
     /// The last run, which has this request, is there no more. Whether there was memory to look for it.
@@ -75,7 +75,7 @@ impl KnownRuns {
             return false;
         }
         self.count = count;
-        self.open.clear(run)
+        self.seats.clear(run)
     }
 }
 
@@ -99,9 +99,7 @@ fn signal_by(
         → AreOf signals.new (with_run b run (made_of change.now)) × IsUntaken o seat.now.head.flow b (with_run b run (made_of change.now))) }
 {
     match change {
-        Change::AddTurn(_, turn) => {
-            signals.follow(&seat.head.flow, run, seat.head.events, turn)
-        }
+        Change::AddTurn(_, turn) => { signals.follow(&seat.head.flow, run, seat.head.events, turn) }
         Change::SetAttempt(_, _, _, _) => Some(None),
         Change::SetText(_, _) => Some(None),
         _ => None,
@@ -130,14 +128,23 @@ impl Facts {
         let Some(seat) = seat_of(self.alloc, whole) else {
             return false;
         };
-        if !self.signals.add_run(&whole.flow, run, whole.history.as_slice()) {
+        if !self
+            .signals
+            .add_run(&whole.flow, run, whole.history.as_slice())
+        {
             return false;
         }
         self.runs.add(run, &whole.request, seat)
     }
 
     /// One more run, with its first turn. None where there was no memory for it, or that turn is a signal.
-    fn begin(&mut self, flow: &Key, request: &Option<Key>, text: TextNo, turn: &Turn) -> Option<Undo>
+    fn begin(
+        &mut self,
+        flow: &Key,
+        request: &Option<Key>,
+        text: TextNo,
+        turn: &Turn,
+    ) -> Option<Undo>
         ensures { IfSome result (λ u. (b : Book) → Knows self.old b → Knows self.new (changed b (AddRun flow.now request.now text turn.now))
             × IsUndo u b (changed b (AddRun flow.now request.now text turn.now))) }
     {
@@ -164,7 +171,7 @@ impl Facts {
         ensures { IfSome result (λ u. (b : Book) → Knows self.old b → Knows self.new (with_run b run (made_of change.now))
             × WasBefore u b (with_run b run (made_of change.now))) }
     {
-        let Some(seat) = self.runs.open.take(run) else {
+        let Some(seat) = self.runs.seats.take(run) else {
             return None;
         };
         let mut seat = seat;
@@ -177,7 +184,7 @@ impl Facts {
         let Some(behind) = seat_behind(self.alloc, kept, change) else {
             return None;
         };
-        if !self.runs.open.put(run, behind) {
+        if !self.runs.seats.put(run, behind) {
             return None;
         }
         Some(RunBefore { run, seat, signal })
@@ -221,10 +228,10 @@ impl Facts {
         if !self.signals.put_back(&seat.head.flow, &signal) {
             return false;
         }
-        if !self.runs.open.clear(run) {
+        if !self.runs.seats.clear(run) {
             return false;
         }
-        self.runs.open.put(run, Some(seat))
+        self.runs.seats.put(run, Some(seat))
     }
 
     /// One change is taken back. Whether there was memory for it.

@@ -100,7 +100,8 @@ impl Maps {
     {
         match undo {
             Undo::Text => self.texts.take_back(),
-            _ => {}
+            Undo::Begun(_) => {}
+            Undo::Before(_) => {}
         }
     }
 
@@ -216,7 +217,7 @@ impl Maps {
         ensures { IfSome result (λ o. (b : Book) → Serves self.now b → o ≡ words.open_run b flow.now) }
     {
         match &self.facts {
-            Some(facts) => facts.runs.open.flows.find(flow),
+            Some(facts) => facts.runs.seats.flows.find(flow),
             None => None,
         }
     }
@@ -226,7 +227,7 @@ impl Maps {
         ensures { IfSome result (λ s. (b : Book) → Serves self.now b → (r : ARun) × (nth b.runs run ≡ Some r) × IsSeat s.now r) }
     {
         match &self.facts {
-            Some(facts) => facts.runs.open.seat(run),
+            Some(facts) => facts.runs.seats.seat(run),
             None => None,
         }
     }
@@ -273,7 +274,7 @@ impl Maps {
         ensures { IfSome result (λ o. (b : Book) → Serves self.now b → o ≡ words.least_due b at) }
     {
         match &self.facts {
-            Some(facts) => first_due(&facts.runs.open.due, at),
+            Some(facts) => first_due(&facts.runs.seats.due, at),
             None => None,
         }
     }
@@ -283,7 +284,7 @@ impl Maps {
         ensures { IfSome result (λ v. (b : Book) → Serves self.now b → v ≡ outlook_of since at b) }
     {
         match &self.facts {
-            Some(facts) => outlook(self.journal.alloc, &facts.runs.open, since, at),
+            Some(facts) => outlook(self.journal.alloc, &facts.runs.seats, since, at),
             None => None,
         }
     }

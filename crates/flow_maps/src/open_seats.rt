@@ -18,7 +18,7 @@ use std::collections::{BTreeMap, BTreeSet};
 /// Seats by run; the runs by their flows; and the slots of their timers and of their activities.
 #[derive(Drop)]
 pub struct OpenSeats {
-    pub(crate) seats: BTreeMap<u64, Seat>,
+    pub(crate) by_run: BTreeMap<u64, Seat>,
     pub(crate) flows: Index,
     pub(crate) due: TimeSlots,
     pub(crate) ready: TimeSlots,
@@ -44,7 +44,7 @@ impl OpenSeats {
         ensures { KnowsOpen result (λ n. None) }
     {
         OpenSeats {
-            seats: BTreeMap::new(alloc),
+            by_run: BTreeMap::new(alloc),
             flows: Index::new(alloc),
             due: BTreeSet::new(alloc),
             ready: BTreeSet::new(alloc),
@@ -57,7 +57,7 @@ impl OpenSeats {
         ensures { IfSome result (λ s. (rs : ℕ → Option ARun) → KnowsOpen self.old rs
             → (r : ARun) × (rs run ≡ Some r) × IsSeated (Some s) (Some r) × KnowsOpen self.new (replaced run None rs)) }
     {
-        let Some(seat) = remove(&mut self.seats, run) else {
+        let Some(seat) = remove(&mut self.by_run, run) else {
             return None;
         };
         if !self.flows.remove(&seat.head.flow) {
@@ -72,7 +72,7 @@ impl OpenSeats {
     pub fn clear(&mut self, run: RunId) -> bool
         ensures { result ≡ true → (rs : ℕ → Option ARun) → KnowsOpen self.old rs → KnowsOpen self.new (replaced run None rs) }
     {
-        if !self.seats.contains_key(&run.get()) {
+        if !self.by_run.contains_key(&run.get()) {
             return true;
         }
         self.take(run).is_some()
@@ -92,7 +92,7 @@ impl OpenSeats {
         if !put_in(&mut self.ready, run, seat.head.tasks.as_slice()) {
             return false;
         }
-        insert(&mut self.seats, run, seat)
+        insert(&mut self.by_run, run, seat)
     }
 
     /// There is a run of this number, open or not. Whether there was memory for it.
@@ -111,13 +111,13 @@ impl OpenSeats {
         ensures { IfSome result (λ s. (rs : ℕ → Option ARun) → KnowsOpen self.now rs
             → (r : ARun) × (rs run ≡ Some r) × IsSeated (Some s.now) (Some r)) }
     {
-        self.seats.get(&run.get())
+        self.by_run.get(&run.get())
     }
 
     /// How many runs are open.
     pub fn count(&self) -> u64
         ensures { (runs : _) → KnowsOpen self.now (λ n. nth runs n) → result ≡ length (filter is_open_run runs) }
     {
-        self.seats.len() as u64
+        self.by_run.len() as u64
     }
 }

@@ -116,12 +116,7 @@ fn first_of(since: u64, at: Moment) -> u64
 }
 
 /// The runs of the slots from one moment to another, in order; none where there is no memory.
-fn runs_within(
-    alloc: Global,
-    ready: &TimeSlots,
-    first: u64,
-    at: Moment,
-) -> Option<BTreeSet<u64>>
+fn runs_within(alloc: Global, ready: &TimeSlots, first: u64, at: Moment) -> Option<BTreeSet<u64>>
     requires { first ≤ at + 1 }
     ensures { IfSome result (λ s. (n : ℕ) → contains nat_cmp s n ≡ list_any (λ (q : Slot). is_run q.1 n)
         (part_within first at ready.now.keys)) }
@@ -138,18 +133,18 @@ fn runs_within(
 /// What these runs have that may be attempted by a moment, and not before another; none where there is no memory.
 fn listed_of(
     alloc: Global,
-    open: &OpenSeats,
+    seats: &OpenSeats,
     runs: &BTreeSet<u64>,
     since: u64,
     at: Moment,
 ) -> Option<Sequence<(RunId, OpenActivity)>>
-    ensures { IfSome result (λ v. (b : Book) → KnowsOpen open.now (λ n. nth b.runs n) → (first : ℕ) → first ≤ since
-        → ((n : ℕ) → contains nat_cmp runs.now n ≡ list_any (λ (q : Slot). is_run q.1 n) (part_within first at open.now.ready.keys))
+    ensures { IfSome result (λ v. (b : Book) → KnowsOpen seats.now (λ n. nth b.runs n) → (first : ℕ) → first ≤ since
+        → ((n : ℕ) → contains nat_cmp runs.now n ≡ list_any (λ (q : Slot). is_run q.1 n) (part_within first at seats.now.ready.keys))
         → v ≡ ready_within since at b) }
 {
     let mut list = Vec::new(alloc);
     for number in runs {
-        if !add_run(&mut list, since, at, *number, &open.seats) {
+        if !add_run(&mut list, since, at, *number, &seats.by_run) {
             return None;
         }
     }
@@ -159,17 +154,17 @@ fn listed_of(
 /// The open activities that may be attempted by a moment, and not before another; none where there is no memory.
 fn listed(
     alloc: Global,
-    open: &OpenSeats,
+    seats: &OpenSeats,
     since: u64,
     at: Moment,
 ) -> Option<Sequence<(RunId, OpenActivity)>>
-    ensures { IfSome result (λ v. (b : Book) → KnowsOpen open.now (λ n. nth b.runs n) → v ≡ ready_within since at b) }
+    ensures { IfSome result (λ v. (b : Book) → KnowsOpen seats.now (λ n. nth b.runs n) → v ≡ ready_within since at b) }
 {
     let first = first_of(since, at);
-    let Some(runs) = runs_within(alloc, &open.ready, first, at) else {
+    let Some(runs) = runs_within(alloc, &seats.ready, first, at) else {
         return None;
     };
-    let Some(list) = listed_of(alloc, open, &runs, since, at) else {
+    let Some(list) = listed_of(alloc, seats, &runs, since, at) else {
         return None;
     };
     Some(list)
@@ -263,26 +258,21 @@ pub(crate) fn moment_of(first: Option<Due>) -> Option<Moment>
 
 /// What there is to do at a moment, of its open activities those that may not be attempted before another one; none where there is no
 /// memory.
-pub(crate) fn outlook(
-    alloc: Global,
-    open: &OpenSeats,
-    since: u64,
-    at: Moment,
-) -> Option<BookWaits>
-    ensures { IfSome result (λ v. (b : Book) → KnowsOpen open.now (λ n. nth b.runs n) → v ≡ rule.outlook_of since at b) }
+pub(crate) fn outlook(alloc: Global, seats: &OpenSeats, since: u64, at: Moment) -> Option<BookWaits>
+    ensures { IfSome result (λ v. (b : Book) → KnowsOpen seats.now (λ n. nth b.runs n) → v ≡ rule.outlook_of since at b) }
 {
-    let Some(first) = first_due(&open.due, Moment::last()) else {
+    let Some(first) = first_due(&seats.due, Moment::last()) else {
         return None;
     };
-    let Some(due) = next_due(moment_of(first), &open.ready, at) else {
+    let Some(due) = next_due(moment_of(first), &seats.ready, at) else {
         return None;
     };
-    let Some(ready) = listed(alloc, open, since, at) else {
+    let Some(ready) = listed(alloc, seats, since, at) else {
         return None;
     };
     Some(BookWaits {
         ready,
         due,
-        open_runs: open.count(),
+        open_runs: seats.count(),
     })
 }

@@ -10,6 +10,5 @@ pub returns-clause-serves : goal.returns-clause-serves
 returns-clause-serves c b h =
     let m = c.args.self.now in
     let taken = record m { journal = c.take-noted.new.self } in
-    let known = c.take_noted_back.ensures b (subst (λ o. MatchOption o (Unit {0}) (λ us. (d : Book) × Leads us.items b d × Serves taken d)) (sym c.take-noted.ensures.taken)
-    (returns_on m taken b m.journal.steps (λ d k. record { requests = k.requests; flows = k.flows; agenda = k.agenda; signals = k.signals; records = k.records }) h)) in
-    c.settle.ensures.serves b (record { requests = known.requests; flows = known.flows; agenda = known.agenda; signals = known.signals; records = known.records })
+    c.settle.ensures.serves b (c.take_noted_back.ensures b (subst (λ o. MatchOption o (Unit {0}) (λ us. (d : Book) × Leads us.items b d × Serves taken d)) (sym c.take-noted.ensures.taken)
+    (returns_on m taken b m.journal.steps (λ d k. record { facts = k.facts; texts = k.texts }) h)))

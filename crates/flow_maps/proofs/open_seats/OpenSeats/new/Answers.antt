@@ -1,0 +1,16 @@
+use Rattle.std.proofs.Common.{◌≡◌, ℕ, None, rules}
+use Rattle.std.specs.BTreeMap.{get}
+use Rattle.std.specs.BTreeSet.{contains}
+use Rattle.std.specs.Ordering.{nat_cmp}
+use Rattle.std.proofs.Common.{false, sym, subst, Option}
+use Rattle.flow_maps.specs.Calendars.{Slot, slot_cmp}
+use Rattle.flow_maps.specs.Seats.{IsSeated}
+use Rattle.flow_maps.specs.declared.seat.Seat.{Seat}
+use Rattle.flow_maps.proofs.open_seats.OpenSeats.new.Goals as goal
+
+pub returns : goal.returns
+returns c =
+    let none : (n : ℕ) → get nat_cmp c.new.result n ≡ None = search rules in
+    let due : (q : Slot) → contains slot_cmp c.new-3.result q ≡ false = search rules in
+    let ready : (q : Slot) → contains slot_cmp c.new-4.result q ≡ false = search rules in
+    record { by_run = λ n. subst (λ (o : Option Seat). IsSeated o None) (sym (none n)) tt; flows = c.new-2.ensures; due = due; ready = ready }

@@ -1,0 +1,6 @@
+use Rattle.std.proofs.Common.{ap}
+use Rattle.flow_view.specs.declared.head.Head.{Head}
+use Rattle.flow_maps.proofs.seat.under_text.Goals as goal
+
+pub returns : goal.returns
+returns c r h = (record { head = ap (λ (k : Head). record k { text = c.args.text }) h.0.head; timers = h.0.timers; calls = h.0.calls }, h.1)

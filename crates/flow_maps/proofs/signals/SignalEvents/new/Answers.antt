@@ -1,0 +1,8 @@
+use Rattle.std.proofs.Common.{◌≡◌, None, rules}
+use Rattle.flow_base.specs.Syntax.{Bytes}
+use Rattle.flow_maps.specs.Signals.{at_request}
+use Rattle.flow_maps.proofs.Signalled.{none_recorded}
+use Rattle.flow_maps.proofs.signals.SignalEvents.new.Goals as goal
+
+pub returns : goal.returns
+returns c b none = none_recorded _ b (let empty : (f q : Bytes) → at_request (record { alloc = c.args.alloc; map = c.new.result }) f q ≡ None = search rules in empty) none

@@ -1,0 +1,8 @@
+use Rattle.std.specs.BTreeSet.{contains}
+use Rattle.flow_maps.specs.Calendars.{slot_cmp}
+use Rattle.flow_maps.proofs.Slots.{slots_more}
+use Rattle.flow_maps.proofs.slots.put_in.Goals as goal
+
+pub returns : goal.returns
+returns g c is f none h q =
+    slots_more g.T.Dated.date f c.args.run q c.args.things.now (contains slot_cmp c.args.slots.now q) (contains slot_cmp c.insert_all.new.slots q) none (h q) (c.insert_all.ensures is q)
