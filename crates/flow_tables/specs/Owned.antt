@@ -9,8 +9,7 @@ use Rattle.flow_tables.specs.contracts.fault.Refusal as refusal_row
 use Rattle.flow_maps.specs.declared.maps.Maps.{Maps}
 use Rattle.flow_maps.specs.Serving.{Serves}
 use Rattle.flow_maps.specs.Undoing.{GoesBack, Returns}
-use Rattle.flow_tables.specs.Known.{OfCount}
-use Rattle.flow_tables.specs.Puts.{texts_counted}
+use Rattle.flow_tables.specs.Known.{IsKnown}
 use Rattle.flow_rows.specs.Rows.{One}
 use Rattle.flow_rows.specs.Told.{TellsIn}
 use Rattle.flow_sql.specs.Past.{ArePast, HasPast, past_tables}
@@ -92,9 +91,9 @@ pub record IsSure (ours : Type 0) (s : State) (refused : Option Refusal) : Type 
 abbrev pub is_sure : {S : Type 0} → Ghosts S → Stored S → Type 0
 is_sure g t = IsSure (IsOurs (state g t.opened)) (state g t.held) t.refused
 
--- How many texts are known is so many, where the transaction shows a book.
-abbrev pub IsAware : State → Option Refusal → Option ℕ → Type 0
-IsAware s refused texts = refused ≡ None → s.in_transaction ≡ true → OfCount texts (texts_counted (tables_in s.now))
+-- What is known of the rows is true, where the transaction shows a book.
+abbrev pub IsAware : State → Option Refusal → RowFacts → Type 0
+IsAware s refused known = refused ≡ None → s.in_transaction ≡ true → IsKnown known (tables_in s.now)
 
 -- What is known is of some book from which it is known how to go back to the one that was kept; and of the one that the transaction
 -- shows.

@@ -6,7 +6,7 @@ ghost use Rattle.flow_maps.specs.Serving.{Serves};
 ghost use Rattle.flow_tables.specs.Known as words;
 ghost use Rattle.flow_tables.specs.Names.{Book, Tables, Tells};
 
-use flow_base::book::{Change, OpenActivity};
+use flow_base::book::{Change, OpenActivity, Timer};
 use flow_base::effect::{Effect, effect_of};
 use flow_base::event::{Input, What};
 use flow_base::number::{EventId, RunId};
@@ -155,6 +155,15 @@ fn tasks_known(tasks: &[OpenActivity]) -> OpenTasks
     }
 }
 
+fn has_some(timers: &[Timer]) -> bool
+    ensures { result ≡ words.has_some timers.now }
+{
+    match timers {
+        [] => false,
+        _ => true,
+    }
+}
+
 /// What is known of an open run tells this of its rows.
 pub fn seat_known(number: RunId, seat: &Seat) -> KnownRun
     ensures { result ≡ words.seat_known number seat.now }
@@ -166,7 +175,7 @@ pub fn seat_known(number: RunId, seat: &Seat) -> KnownRun
             is_open: seat.head.is_open,
             is_marked: false,
             tasks: tasks_known(seat.head.tasks.as_slice()),
-            has_timers: !seat.timers.is_empty(),
+            has_timers: has_some(seat.timers.as_slice()),
         },
     }
 }
