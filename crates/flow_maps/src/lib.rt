@@ -14,7 +14,7 @@ pub mod open_seats;
 pub mod outlook;
 pub mod seat;
 pub mod signals;
-pub mod slots;
 pub mod texts;
+pub mod time_slots;
 mod turned;
 pub mod undo;

@@ -10,7 +10,7 @@ ghost use Rattle.flow_maps.specs.Seats.{IsSeated, KnowsOpen};
 
 use crate::index::Index;
 use crate::seat::Seat;
-use crate::slots::{TimeSlots, put_in, take_out};
+use crate::time_slots::{TimeSlots, put_in, take_out};
 use flow_base::number::RunId;
 use std::alloc::Global;
 use std::collections::{BTreeMap, BTreeSet};

@@ -14,7 +14,7 @@ ghost use Rattle.flow_maps.specs.Outlooks.{is_within, ready_within, waiting, wai
 
 use crate::open_seats::OpenSeats;
 use crate::seat::Seat;
-use crate::slots::{TimeSlots, first_due};
+use crate::time_slots::{TimeSlots, first_due};
 use flow_base::book::{Due, OpenActivity};
 use flow_base::number::{Moment, RunId};
 use flow_base::sequence::Sequence;

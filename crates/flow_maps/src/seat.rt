@@ -203,6 +203,7 @@ pub(crate) fn seat_behind(alloc: Global, seat: Seat, change: &Change) -> Option<
             at_attempt(alloc, seat, *event, *attempt, *ready)
         }
         Change::SetText(_, text) => Some(Some(under_text(seat, *text))),
-        _ => None,
+        Change::AddText(_) => None,
+        Change::AddRun(_, _, _, _) => None,
     }
 }

@@ -1,7 +1,7 @@
 use Rattle.std.specs.BTreeSet.{contains}
 use Rattle.flow_maps.specs.Calendars.{slot_cmp}
 use Rattle.flow_maps.proofs.Slots.{slots_more}
-use Rattle.flow_maps.proofs.slots.put_in.Goals as goal
+use Rattle.flow_maps.proofs.time_slots.put_in.Goals as goal
 
 pub returns : goal.returns
 returns g c is f none h q =

@@ -1,6 +1,6 @@
 use Rattle.std.proofs.Common.{◌<◌, ◌≤◌, Some, subst, sym, ap, ◌∙◌, true≢false}
 use Rattle.flow_maps.proofs.Slots.{none_in, none_due, later_due, first_due}
-use Rattle.flow_maps.proofs.slots.first_due.Goals as goal
+use Rattle.flow_maps.proofs.time_slots.first_due.Goals as goal
 
 pub returns-in_default : goal.returns-in_default
 returns-in_default c b h = none_due c.args.timers.now b c.args.at h (none_in c.args.timers.now (λ more. true≢false (sym (c.in_default.ensures.variant.1 more))))

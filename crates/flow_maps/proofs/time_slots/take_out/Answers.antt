@@ -2,7 +2,7 @@ use Rattle.std.proofs.Common.{not, ◌&&◌, sym, ap, ◌∙◌}
 use Rattle.std.specs.BTreeSet.{contains}
 use Rattle.flow_maps.specs.Calendars.{slot_cmp, has_slot}
 use Rattle.flow_maps.proofs.Slots.{slots_gone}
-use Rattle.flow_maps.proofs.slots.take_out.Goals as goal
+use Rattle.flow_maps.proofs.time_slots.take_out.Goals as goal
 
 pub returns : goal.returns
 returns g c f same h q =
