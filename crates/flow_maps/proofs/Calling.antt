@@ -18,8 +18,8 @@ use Rattle.flow_maps.proofs.Planning.{none_is}
 use Rattle.flow_maps.proofs.Slots.{run_is}
 
 -- none is known
-pub no_calls : (m : BTreeMap ℕ Event) → m.entries ≡ [] → (h : List Event) → AreCalls m h
-no_calls m empty h n = subst (λ (es : List (ℕ × Event)). IsEvent (get nat_cmp (record { entries = es }) n) (event_of h n)) (sym empty) tt
+pub no_calls : (m : BTreeMap ℕ Event) → ((n : ℕ) → get nat_cmp m n ≡ None) → (h : List Event) → AreCalls m h
+no_calls m none h n = subst (λ o. IsEvent o (event_of h n)) (sym (none n)) tt
 
 module _ (m m' : BTreeMap ℕ Event) (id : ℕ) (h : List Event) (known : AreCalls m h) where
   pub call_in : (e : Event) → ((n : ℕ) → get nat_cmp m' n ≡ replaced id (Some e) (λ k. get nat_cmp m k) n) → event_of h id ≡ Some e → AreCalls m' h

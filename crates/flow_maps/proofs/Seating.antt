@@ -66,13 +66,17 @@ module _ (m m' : OpenSeats) (run : ℕ) (s : Seat) (rs : ℕ → Option Run) (h 
       → ((f : ℕ → List OpenActivity) → f run ≡ s.head.tasks → HasSlots date_of_task m.ready f → HasSlots date_of_task m'.ready (replaced run [] f))
       → (r : Run) × (rs run ≡ Some r) × IsSeated (Some s) (Some r) × KnowsOpen m' (replaced run None rs)
   seat_out there out flows due ready =
-      let it = seat_there (get nat_cmp m.by_run run) (rs run) s there (h.by_run run) in
-      (it.0, it.1, it.2, record {
-        by_run = λ n. subst (λ o. IsSeated o (replaced run None rs n)) (sym (out n)) (go n (is_run run n));
-        flows = subst (λ (f : ℕ → Option Bytes). IsIndex m'.flows f) (λ i n. sym (of_at (name_of open_key) run None rs n) i) (flows (λ n. name_of open_key (rs n)) run (ap (name_of open_key) it.1 ∙ flow_is s it.0 it.2) h.flows);
-        due = subst (λ (f : ℕ → List Timer). HasSlots date_of_timer m'.due f) (λ i n. sym (of_at (of_run timers_of) run None rs n) i) (due (λ n. of_run timers_of (rs n)) (ap (of_run timers_of) it.1 ∙ timers_are s it.0 it.2) h.due);
-        ready = subst (λ (f : ℕ → List OpenActivity). HasSlots date_of_task m'.ready f) (λ i n. sym (of_at (of_run tasks_of) run None rs n) i) (ready (λ n. of_run tasks_of (rs n)) (ap (of_run tasks_of) it.1 ∙ tasks_are s it.0 it.2) h.ready);
-      })
+      let it = seat_there (get nat_cmp m.by_run run) (rs run) s there (h.by_run run) in (
+        it.0,
+        it.1,
+        it.2,
+        record {
+          by_run = λ n. subst (λ o. IsSeated o (replaced run None rs n)) (sym (out n)) (go n (is_run run n));
+          flows = subst (λ (f : ℕ → Option Bytes). IsIndex m'.flows f) (λ i n. sym (of_at (name_of open_key) run None rs n) i) (flows (λ n. name_of open_key (rs n)) run (ap (name_of open_key) it.1 ∙ flow_is s it.0 it.2) h.flows);
+          due = subst (λ (f : ℕ → List Timer). HasSlots date_of_timer m'.due f) (λ i n. sym (of_at (of_run timers_of) run None rs n) i) (due (λ n. of_run timers_of (rs n)) (ap (of_run timers_of) it.1 ∙ timers_are s it.0 it.2) h.due);
+          ready = subst (λ (f : ℕ → List OpenActivity). HasSlots date_of_task m'.ready f) (λ i n. sym (of_at (of_run tasks_of) run None rs n) i) (ready (λ n. of_run tasks_of (rs n)) (ap (of_run tasks_of) it.1 ∙ tasks_are s it.0 it.2) h.ready);
+        },
+      )
     where
       go : (n : ℕ) (v : Bool) → IsSeated (cond v None (get nat_cmp m.by_run n)) (cond v None (rs n))
       go n true = tt

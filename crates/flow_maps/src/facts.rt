@@ -190,9 +190,10 @@ impl Facts {
         Some(RunBefore { run, seat, signal })
     }
 
+    /// The same, where the change is one of this run.
     fn follow(&mut self, run: RunId, change: &Change) -> Option<Undo>
-        ensures { IfSome result (λ u. (b : Book) → Knows self.old b → Knows self.new (with_run b run (made_of change.now))
-            × IsUndo u b (with_run b run (made_of change.now))) }
+        ensures { IfSome result (λ u. (b : Book) → changed b change.now ≡ with_run b run (made_of change.now) → Knows self.old b
+            → Knows self.new (changed b change.now) × IsUndo u b (changed b change.now)) }
     {
         match self.go_on(run, change) {
             Some(before) => Some(Undo::Before(before)),

@@ -100,8 +100,8 @@ impl Maps {
     {
         match undo {
             Undo::Text => self.texts.take_back(),
-            Undo::Begun(_) => {}
-            Undo::Before(_) => {}
+            Undo::Begun(_request) => {}
+            Undo::Before(_before) => {}
         }
     }
 

@@ -1,9 +1,10 @@
 //! What is known of an open run: its head, its open timers, and the events that scheduled its open activities.
-ghost use Rattle.std.specs.Prelude.{◌≡◌, IfSome, Some, false};
+ghost use Rattle.std.specs.Prelude.{◌≡◌, IfSome, List, Some, false};
 ghost use Rattle.flow_base.specs.declared.book.Run.{Run as ARun};
+ghost use Rattle.flow_base.specs.declared.event.Event.{Event as AnEvent};
 ghost use Rattle.flow_model.specs.Book.{unbegun_run, with_attempt, with_text, with_turn};
 ghost use Rattle.flow_model.specs.Open as left_open;
-ghost use Rattle.flow_maps.specs.Seats.{IsSeat, IsSeated, made_of};
+ghost use Rattle.flow_maps.specs.Seats.{AreCalls, IsSeat, IsSeated, made_of};
 ghost use Rattle.flow_view.specs.Heads as heads;
 
 use crate::calls::{Calls, calls_behind, calls_of};
@@ -76,13 +77,21 @@ pub(crate) fn seat_of(alloc: Global, whole: &Run) -> Option<Option<Seat>>
     }
 }
 
+/// What is known of the activities of a run, which from now on is nothing.
+fn taken_calls(alloc: Global, calls: &mut Calls) -> Calls
+    ensures taken { result ≡ calls.old }
+    ensures none { (h : List AnEvent) → AreCalls calls.new h }
+{
+    replace(calls, BTreeMap::new(alloc))
+}
+
 /// The same seat, which takes with it what is known of activities.
 pub(crate) fn taken_on(alloc: Global, seat: &mut Seat) -> Option<Seat>
     ensures { IfSome result (λ s. (r : ARun) → IsSeat seat.old r → IsSeat s r × IsSeat seat.new r) }
 {
     let head = copied_if(alloc, &seat.head)?;
     let timers = copied_timers(alloc, seat.timers.as_slice())?;
-    let calls = replace(&mut seat.calls, BTreeMap::new(alloc));
+    let calls = taken_calls(alloc, &mut seat.calls);
     Some(Seat {
         head,
         timers,

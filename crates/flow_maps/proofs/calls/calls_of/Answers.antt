@@ -1,5 +1,10 @@
+use Rattle.std.proofs.Common.{◌≡◌, ℕ, None, rules}
+use Rattle.std.specs.BTreeMap.{get}
+use Rattle.std.specs.Ordering.{nat_cmp}
 use Rattle.flow_maps.proofs.Calling.{no_calls}
 use Rattle.flow_maps.proofs.calls.calls_of.Goals as goal
 
 pub loop-task-init : goal.loop-task-init
-loop-task-init c = no_calls c.new-calls.result c.new-calls.ensures.empty c.args.whole.now.history
+loop-task-init c =
+    let none : (n : ℕ) → get nat_cmp c.new-calls.result n ≡ None = search rules in
+    no_calls c.new-calls.result none c.args.whole.now.history

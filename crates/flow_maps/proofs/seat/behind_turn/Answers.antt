@@ -17,8 +17,8 @@ returns-then-not-is_open c =
     let shut : c.in-Some.head.is_open ≡ false = search rules in
     some_weaker c.closed.result (λ (o : Option Seat). (r : Run) → r.tasks ≡ c.as_slice.result.now → (head_of r).is_open ≡ false → IsSeated o (Some r)) (λ o. (r : Run) → IsSeat c.args.seat r → IsSeated o (Some (with_turn t r)))
     (λ o is r h.
-        let head : head_of (with_turn t r) ≡ c.in-Some.head = turned t r ∙ ap (head_behind t) h.head ∙ sym c.in-Some.ensures in
-        is (with_turn t r) (ap (λ (k : Head). k.tasks) head ∙ sym c.as_slice.ensures) (ap (λ (k : Head). k.is_open) head ∙ shut)) c.closed.ensures
+    let head : head_of (with_turn t r) ≡ c.in-Some.head = turned t r ∙ ap (head_behind t) h.head ∙ sym c.in-Some.ensures in
+    is (with_turn t r) (ap (λ (k : Head). k.tasks) head ∙ sym c.as_slice.ensures) (ap (λ (k : Head). k.is_open) head ∙ shut)) c.closed.ensures
 
 pub returns : goal.returns
 returns c r h =

@@ -1,10 +1,15 @@
-use Rattle.std.proofs.Common.{sym, ◌∙◌, subst}
+use Rattle.std.proofs.Common.{sym, ◌∙◌, subst, ℕ}
+use Rattle.std.specs.BTreeMap.{BTreeMap}
+use Rattle.flow_base.specs.declared.event.Event.{Event}
 use Rattle.flow_maps.specs.Seats.{AreCalls}
-use Rattle.flow_maps.proofs.Calling.{no_calls}
 use Rattle.flow_maps.proofs.seat.taken_on.Goals as goal
 
 pub returns : goal.returns
 returns c r h = (
-  record { head = h.head ∙ sym c.in_some-head.ensures; timers = h.timers ∙ sym c.in_some-timers.ensures; calls = h.calls },
-  record { head = h.head; timers = h.timers; calls = no_calls c.new.result c.new.ensures.empty r.history },
+  record {
+    head = h.head ∙ sym c.in_some-head.ensures;
+    timers = h.timers ∙ sym (c.in_some-timers.ensures ∙ c.as_slice.ensures);
+    calls = subst (λ (m : BTreeMap ℕ Event). AreCalls m r.history) (sym c.taken_calls-calls.ensures.taken) h.calls;
+  },
+  record { head = h.head; timers = h.timers; calls = c.taken_calls-calls.ensures.none r.history },
 )

@@ -1,6 +1,10 @@
-use Rattle.std.proofs.Common.{[], sym}
+use Rattle.std.proofs.Common.{◌≡◌, ℕ, None, [], rules, sym}
+use Rattle.std.specs.BTreeMap.{get}
+use Rattle.std.specs.Ordering.{nat_cmp}
 use Rattle.flow_maps.proofs.Calling.{no_calls}
 use Rattle.flow_maps.proofs.seat.unbegun.Goals as goal
 
 pub returns-in-Ok : goal.returns-in-Ok
-returns-in-Ok c = record { head = sym c.in-Ok.ensures; timers = sym c.new.ensures; calls = no_calls c.new-2.result c.new-2.ensures.empty [] }
+returns-in-Ok c =
+    let none : (n : ℕ) → get nat_cmp c.new-2.result n ≡ None = search rules in
+    record { head = sym c.in-Ok.ensures; timers = sym c.new.ensures; calls = no_calls c.new-2.result none [] }

@@ -1,4 +1,8 @@
+use Rattle.std.proofs.Common.{subst, sym}
+use Rattle.flow_model.specs.Book.{Book}
+use Rattle.flow_maps.specs.Seats.{Knows}
+use Rattle.flow_maps.specs.Undoing.{WasBefore}
 use Rattle.flow_maps.proofs.facts.Facts.follow.Goals as goal
 
 pub returns-in-Some : goal.returns-in-Some
-returns-in-Some c b h = c.in-Some.ensures b h
+returns-in-Some c b is h = subst (λ (d : Book). Knows c.go_on.new.self d × WasBefore c.in-Some.before b d) (sym is) (c.in-Some.ensures b h)

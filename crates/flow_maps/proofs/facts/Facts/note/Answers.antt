@@ -1,4 +1,8 @@
-use Rattle.std.proofs.Common.{refl}
+use Rattle.std.proofs.Common.{◌≡◌, refl}
+use Rattle.flow_model.specs.Book.{Book, changed, with_run}
+use Rattle.flow_maps.specs.Seats.{Knows, made_of}
+use Rattle.flow_maps.specs.Undoing.{IsUndo}
+use Rattle.flow_maps.proofs.Serving.{some_weaker}
 use Rattle.flow_maps.proofs.facts.Facts.note.Goals as goal
 
 pub returns-in-AddText : goal.returns-in-AddText
@@ -8,4 +12,19 @@ pub returns-in-AddRun : goal.returns-in-AddRun
 returns-in-AddRun c = rw c.in-AddRun.is c.begin.ensures
 
 pub returns-in-AddTurn : goal.returns-in-AddTurn
-returns-in-AddTurn c = rw c.in-AddTurn.is c.follow.ensures
+returns-in-AddTurn c =
+    let change = c.args.change.now in
+    some_weaker c.follow.result (λ u. (b : Book) → changed b change ≡ with_run b c.in-AddTurn.run' (made_of change) → Knows c.args.self.now b → Knows c.follow.new.self (changed b change) × IsUndo u b (changed b change))
+    (λ u. (b : Book) → Knows c.args.self.now b → Knows c.follow.new.self (changed b change) × IsUndo u b (changed b change)) (λ u is b h. is b (rw c.in-AddTurn.is refl) h) c.follow.ensures
+
+pub returns-in-SetAttempt : goal.returns-in-SetAttempt
+returns-in-SetAttempt c =
+    let change = c.args.change.now in
+    some_weaker c.follow-in-SetAttempt.result (λ u. (b : Book) → changed b change ≡ with_run b c.in-SetAttempt.run' (made_of change) → Knows c.args.self.now b → Knows c.follow-in-SetAttempt.new.self (changed b change) × IsUndo u b (changed b change))
+    (λ u. (b : Book) → Knows c.args.self.now b → Knows c.follow-in-SetAttempt.new.self (changed b change) × IsUndo u b (changed b change)) (λ u is b h. is b (rw c.in-SetAttempt.is refl) h) c.follow-in-SetAttempt.ensures
+
+pub returns-in-SetText : goal.returns-in-SetText
+returns-in-SetText c =
+    let change = c.args.change.now in
+    some_weaker c.follow-in-SetText.result (λ u. (b : Book) → changed b change ≡ with_run b c.in-SetText.run' (made_of change) → Knows c.args.self.now b → Knows c.follow-in-SetText.new.self (changed b change) × IsUndo u b (changed b change))
+    (λ u. (b : Book) → Knows c.args.self.now b → Knows c.follow-in-SetText.new.self (changed b change) × IsUndo u b (changed b change)) (λ u is b h. is b (rw c.in-SetText.is refl) h) c.follow-in-SetText.ensures

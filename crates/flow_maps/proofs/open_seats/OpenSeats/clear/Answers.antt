@@ -11,7 +11,7 @@ returns-then-not-contains_key c is rs h =
     let none : is_some (get nat_cmp c.args.self.now.by_run c.args.run) ≡ false = search rules in
     unseated c.args.self.now c.args.run rs None h (is_nothing (get nat_cmp c.args.self.now.by_run c.args.run) none) tt
 
-pub returns-else-not-contains_key : goal.returns-else-not-contains_key
-returns-else-not-contains_key c is rs h =
+pub returns : goal.returns
+returns c is rs h =
     let some : is_some c.take.result ≡ true = search rules in
     taken_clear c.args.self.now c.take.new.self c.args.run c.take.result rs some c.take.ensures h
