@@ -1,19 +1,6 @@
 -- Events by which activities were scheduled, that are known of a history.
-use Rattle.std.proofs.Common.{◌≡◌, ◌+◌, ◌<◌, ℕ, zero, suc, Bool, true, false, cond, List, [], ◌∷◌, ◌++◌, length, Option, Some, None, slice_get, refl, sym, ap, subst, ◌∙◌, arith, get_or}
-use Rattle.std.specs.Prelude.{IfSome}
-use Rattle.std.specs.BTreeMap.{BTreeMap, get}
-use Rattle.std.specs.Ordering.{nat_cmp}
-use Rattle.flow_base.specs.declared.event.Cmd.{Cmd}
-use Rattle.flow_base.specs.declared.event.Event.{Event}
-use Rattle.flow_base.specs.declared.event.What.TheVariants.{Asked}
-use Rattle.flow_base.specs.declared.book.Run.{Run}
-use Rattle.flow_base.specs.declared.book.Turn.{Turn}
-use Rattle.flow_model.specs.Book.{nth, with_turn}
-use Rattle.flow_model.specs.Turned.{traces, turn_events}
-use Rattle.flow_model.proofs.Logs.{nth_at}
-use Rattle.flow_view.specs.Heads.{event_of}
-use Rattle.flow_maps.specs.OfRuns.{is_run, replaced}
-use Rattle.flow_maps.specs.Seats.{AreCalls, IsEvent}
+use Rattle.std.specs.Prelude.{◌≡◌, ◌+◌, ◌<◌, ◌∷◌, ◌++◌}
+use Rattle.flow_maps.proofs.Names.{ℕ, zero, suc, Bool, true, false, cond, List, [], length, Option, Some, None, slice_get, refl, sym, ap, subst, ◌∙◌, arith, get_or, IfSome, BTreeMap, get, nat_cmp, Cmd, Event, Asked, Run, Turn, nth, with_turn, traces, turn_events, nth_at, event_of, is_run, replaced, AreCalls, IsEvent}
 use Rattle.flow_maps.proofs.Planning.{none_is}
 use Rattle.flow_maps.proofs.Slots.{run_is}
 

@@ -1,16 +1,7 @@
 -- What a turn makes of a run's head and of its timers.
-use Rattle.std.proofs.Common.{◌≡◌, ◌+◌, List, [], ◌∷◌, ◌++◌, ℕ, length, refl, sym, ap, ◌∙◌, arith, length-append}
-use Rattle.flow_base.specs.declared.event.Cmd.{Cmd}
-use Rattle.flow_base.specs.declared.event.Event.{Event}
-use Rattle.flow_base.specs.declared.book.Run.{Run}
-use Rattle.flow_base.specs.declared.book.Timer.{Timer}
-use Rattle.flow_base.specs.declared.book.Turn.{Turn}
-use Rattle.flow_model.specs.Book.{with_turn}
-use Rattle.flow_model.specs.Open.{moment_after, moment_of, open_timers, timers_after, timers_after_one}
-use Rattle.flow_model.specs.Turned.{traces, turn_events}
-use Rattle.flow_view.specs.Heads.{head_of}
-use Rattle.flow_maps.specs.Agenda.{events_behind, tasks_behind, timers_behind}
-use Rattle.flow_maps.specs.Seats.{head_behind}
+use Rattle.std.specs.Prelude.{◌≡◌, ◌+◌, ◌∷◌, ◌++◌}
+use Rattle.flow_maps.proofs.Names.{List, [], ℕ, length, refl, sym, ap, ◌∙◌, arith, length-append, Cmd, Event, Run, Timer, Turn, with_turn, moment_after, open_timers, timers_after, timers_after_one, traces, turn_events, head_of, events_behind, tasks_behind, timers_behind, head_behind}
+use Rattle.flow_model.specs.Open.{moment_of}
 use Rattle.flow_maps.proofs.Serving.{turn_open}
 
 traces_long : (n at : ℕ) (cs : List Cmd) → length (traces n at cs) ≡ length cs

@@ -1,15 +1,6 @@
 -- What one name more or less makes of an index, and that what is found by it is the first.
-use Rattle.std.proofs.Common.{◌≡◌, ◌+◌, ℕ, zero, suc, Bool, true, false, cond, if◌then◌else◌, List, [], ◌∷◌, Option, Some, None, is_some, slice_get, bytes_eq, refl, sym, ap, subst, ◌∙◌, true≢false, arith}
-use Rattle.std.specs.Map.{update}
-use Rattle.std.proofs.lemmas.Slice.Eq.{bytes_eq-Decides}
-use Rattle.flow_base.specs.Syntax.{Bytes}
-use Rattle.flow_base.specs.declared.book.Run.{Run}
-use Rattle.flow_model.specs.Book.{nth, first_from}
-use Rattle.flow_model.proofs.Logs.{nth_at}
-use Rattle.flow_maps.specs.Names.{at_name}
-use Rattle.flow_maps.specs.declared.index.Index.{Index}
-use Rattle.flow_maps.specs.Keys.{is_key, name_of, IsFound, IsIndex}
-use Rattle.flow_maps.specs.OfRuns.{is_run, replaced}
+use Rattle.std.specs.Prelude.{◌≡◌, ◌+◌, if◌then◌else◌, ◌∷◌}
+use Rattle.flow_maps.proofs.Names.{ℕ, zero, suc, Bool, true, false, cond, List, [], Option, Some, None, is_some, slice_get, bytes_eq, refl, sym, ap, subst, ◌∙◌, true≢false, arith, update, bytes_eq-Decides, Bytes, Run, nth, first_from, nth_at, at_name, Index, is_key, name_of, IsFound, IsIndex, is_run, replaced}
 use Rattle.flow_maps.proofs.Planning.{here_at}
 use Rattle.flow_maps.proofs.Slots.{run_is, run_itself, not_true}
 

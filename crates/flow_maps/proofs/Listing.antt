@@ -1,26 +1,6 @@
 -- What may be attempted by a moment, listed by the runs that have something by then.
-use Rattle.std.proofs.Common.{◌≡◌, ◌≤◌, ◌<◌, ◌+◌, ◌-◌, ◌||◌, ℕ, zero, suc, Bool, true, false, cond, List, [], ◌∷◌, ◌++◌, filter, length, slice_get, refl, sym, ap, ◌∙◌, inl, inr, true≢false, arith, subst, Option, Some, None}
-use Rattle.std.specs.Prelude.{◌⊎◌, ◌&&◌, nat_le}
-use Rattle.std.specs.List.{AllByRecursion, list_any}
-use Rattle.std.specs.List.Sorted.{IsStrictlySortedBy}
-use Rattle.std.specs.Ordering.{nat_cmp, is_gt, is_le, ordering_then}
-use Rattle.std.specs.BTreeSet.{BTreeSet, contains}
-use Rattle.std.specs.BTreeMap.Range.{range_contains}
-use Rattle.std.specs.Cmp.{nat_cmp_is}
-use Rattle.std.specs.declared.ops.Bound.TheVariants.{Excluded, Included}
-use Rattle.std.proofs.Common.{Less, Equal, Greater}
-use Rattle.std.proofs.lemmas.Bool.{cases_Bool, leb-true, leb-false}
-use Rattle.std.proofs.lemmas.Cmp.{ranked}
-use Rattle.flow_base.specs.declared.book.Run.{Run}
-use Rattle.flow_base.specs.declared.book.OpenActivity.{OpenActivity}
-use Rattle.flow_model.specs.Book.{Book, nth}
-use Rattle.flow_model.proofs.DueFirst.{Has}
-use Rattle.flow_model.proofs.Logs.{nth_at}
-use Rattle.flow_maps.specs.Agenda.{is_open_run, tasks_of, tasks_at}
-use Rattle.flow_maps.specs.Calendars.{Slot, slot_cmp, is_slot, slot, date_of_task, HasSlots, part_within}
-use Rattle.flow_maps.specs.OfRuns.{is_run}
-use Rattle.flow_maps.specs.Outlooks.{Waiting, is_by, is_within, ready_of, ready_within, waiting, waiting_in, waiting_from}
-use Rattle.flow_maps.specs.Timers.{of_run}
+use Rattle.std.specs.Prelude.{◌≡◌, ◌≤◌, ◌<◌, ◌+◌, ◌-◌, ◌||◌, ◌∷◌, ◌++◌, ◌⊎◌, ◌&&◌}
+use Rattle.flow_maps.proofs.Names.{ℕ, zero, suc, Bool, true, false, cond, List, [], filter, length, slice_get, refl, sym, ap, ◌∙◌, inl, inr, true≢false, arith, subst, Option, Some, None, nat_le, AllByRecursion, list_any, IsStrictlySortedBy, nat_cmp, is_gt, is_le, ordering_then, BTreeSet, contains, range_contains, nat_cmp_is, Excluded, Included, Less, Equal, Greater, cases_Bool, leb-true, leb-false, ranked, Run, OpenActivity, Book, nth, Has, nth_at, is_open_run, tasks_of, tasks_at, Slot, slot_cmp, is_slot, slot, date_of_task, HasSlots, part_within, is_run, Waiting, is_by, is_within, ready_of, ready_within, waiting, waiting_in, waiting_from, of_run}
 use Rattle.flow_maps.proofs.Slots.{run_is, run_itself, not_true, slot_is, one_has, later}
 
 -- each number is above those before it, and none is below the first one

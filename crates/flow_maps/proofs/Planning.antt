@@ -1,10 +1,6 @@
 -- The runs of a book by their numbers, where one of them changes, comes or goes.
-use Rattle.std.proofs.Common.{◌≡◌, ◌-◌, ◌+◌, ℕ, zero, suc, Bool, true, false, cond, List, [], ◌∷◌, ◌++◌, length, Option, Some, None, slice_get, slice_set, refl, sym, ap, subst, ◌∙◌, true≢false, arith}
-use Rattle.flow_base.specs.declared.book.Run.{Run}
-use Rattle.flow_model.specs.Book.{nth}
-use Rattle.flow_model.proofs.Logs.{nth_at}
-use Rattle.flow_maps.specs.OfRuns.{is_run, replaced}
-use Rattle.flow_maps.specs.Timers.{of_run}
+use Rattle.std.specs.Prelude.{◌≡◌, ◌-◌, ◌+◌, ◌∷◌, ◌++◌}
+use Rattle.flow_maps.proofs.Names.{ℕ, zero, suc, Bool, true, false, cond, List, [], length, Option, Some, None, slice_get, slice_set, refl, sym, ap, subst, ◌∙◌, true≢false, arith, Run, nth, nth_at, is_run, replaced, of_run}
 use Rattle.flow_maps.proofs.Slots.{run_is, run_itself, not_true}
 
 pub none_is : {A : Type 0} (x : A) → None ≡ Some x → ⊥

@@ -1,27 +1,6 @@
 -- What is known of the open runs where a run comes, goes, or is another.
-use Rattle.std.proofs.Common.{◌≡◌, ◌+◌, ◌++◌, ◌∷◌, [], ℕ, Bool, true, false, cond, if◌then◌else◌, List, Option, Some, None, is_some, length, filter, option_map, refl, sym, ap, subst, true≢false, ◌∙◌}
-use Rattle.std.specs.Prelude.{IfSome}
-use Rattle.std.specs.BTreeMap.{BTreeMap, get, keys}
-use Rattle.std.specs.Ordering.{nat_cmp}
-use Rattle.std.specs.List.Sorted.{IsStrictlySortedBy}
-use Rattle.std.proofs.lemmas.Map.Entries.{length-keys_of}
-use Rattle.std.proofs.lemmas.Map.Made.{is_some-lookup}
-use Rattle.flow_base.specs.Syntax.{Bytes}
-use Rattle.flow_base.specs.declared.book.OpenActivity.{OpenActivity}
-use Rattle.flow_base.specs.declared.book.Run.{Run}
-use Rattle.flow_base.specs.declared.book.Timer.{Timer}
-use Rattle.flow_model.specs.Book.{Book, nth}
-use Rattle.flow_model.specs.Open.{open_timers, state_of}
-use Rattle.flow_model.specs.Configuration.{is_open}
-use Rattle.flow_view.specs.declared.head.Head.{Head}
-use Rattle.flow_maps.specs.Agenda.{is_open_run, tasks_at, tasks_of}
-use Rattle.flow_maps.specs.Calendars.{HasSlots, date_of_task, date_of_timer}
-use Rattle.flow_maps.specs.Keys.{IsIndex, key_if, name_of, open_key}
-use Rattle.flow_maps.specs.OfRuns.{is_run, replaced}
-use Rattle.flow_maps.specs.Seats.{IsSeat, IsSeated, KnowsOpen, seat_tasks}
-use Rattle.flow_maps.specs.Timers.{of_run, timers_of}
-use Rattle.flow_maps.specs.declared.open_seats.OpenSeats.{OpenSeats}
-use Rattle.flow_maps.specs.declared.seat.Seat.{Seat}
+use Rattle.std.specs.Prelude.{◌≡◌, ◌+◌, ◌++◌, ◌∷◌, if◌then◌else◌}
+use Rattle.flow_maps.proofs.Names.{[], ℕ, Bool, true, false, cond, List, Option, Some, None, is_some, length, filter, option_map, refl, sym, ap, subst, true≢false, ◌∙◌, IfSome, BTreeMap, get, keys, nat_cmp, IsStrictlySortedBy, length-keys_of, is_some-lookup, Bytes, OpenActivity, Run, Timer, Book, nth, open_timers, state_of, is_open, Head, is_open_run, tasks_at, tasks_of, HasSlots, date_of_task, date_of_timer, IsIndex, key_if, name_of, open_key, is_run, replaced, IsSeat, IsSeated, KnowsOpen, seat_tasks, of_run, timers_of, OpenSeats, Seat}
 use Rattle.flow_maps.proofs.Listing.{in_open, open_many}
 use Rattle.flow_maps.proofs.Planning.{none_is, of_at, same_view, some_is}
 use Rattle.flow_maps.proofs.Slots.{run_is}

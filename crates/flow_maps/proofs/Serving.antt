@@ -1,22 +1,7 @@
 -- What is found by the names of runs, and whether a turn leaves a run open.
-use Rattle.std.proofs.Common.{◌≡◌, ◌-◌, ◌+◌, ℕ, Bool, true, false, ◌&&◌, if◌then◌else◌, List, [], ◌∷◌, ◌++◌, length, Option, Some, None, slice_set, bytes_eq, refl, sym, ap, ◌∙◌}
-use Rattle.std.specs.Prelude.{IfSome}
-use Rattle.flow_base.specs.Effects.{effect_of_input, effect_of_command, state_by}
-use Rattle.flow_base.specs.Syntax.{Bytes}
-use Rattle.flow_base.specs.declared.effect.Effect.{Effect}
-use Rattle.flow_base.specs.declared.effect.Effect.TheVariants.{Begins, OpensActivity, OpensTimer, EndsActivity, EndsTimer, Closes, Nothing}
-use Rattle.flow_base.specs.declared.event.Cmd.{Cmd}
-use Rattle.flow_base.specs.declared.event.Event.{Event}
-use Rattle.flow_base.specs.declared.event.State.{State}
+use Rattle.std.specs.Prelude.{◌≡◌, ◌-◌, ◌+◌, ◌&&◌, if◌then◌else◌, ◌∷◌, ◌++◌}
+use Rattle.flow_maps.proofs.Names.{ℕ, Bool, true, false, List, [], length, Option, Some, None, slice_set, bytes_eq, refl, sym, ap, ◌∙◌, IfSome, effect_of_input, effect_of_command, state_by, Bytes, Effect, Begins, OpensActivity, OpensTimer, EndsActivity, EndsTimer, Closes, Nothing, Cmd, Event, State, Run, Turn, is_open, state_after_one, state_after, state_of, traces, turn_events, Book, nth, with_run, with_turn, is_from, is_open_of, requested, open_run, is_key, IsFound, name_of, request_key, key_if, open_key, is_open_by, is_open_after, is_open_behind}
 use Rattle.flow_base.specs.declared.event.State.TheVariants as state
-use Rattle.flow_base.specs.declared.book.Run.{Run}
-use Rattle.flow_base.specs.declared.book.Turn.{Turn}
-use Rattle.flow_model.specs.Configuration.{is_open}
-use Rattle.flow_model.specs.Open.{state_after_one, state_after, state_of}
-use Rattle.flow_model.specs.Turned.{traces, turn_events}
-use Rattle.flow_model.specs.Book.{Book, nth, with_run, with_turn, is_from, is_open_of, requested, open_run}
-use Rattle.flow_maps.specs.Keys.{is_key, IsFound, name_of, request_key, key_if, open_key}
-use Rattle.flow_maps.specs.Turned.{is_open_by, is_open_after, is_open_behind}
 use Rattle.flow_maps.proofs.Keys.{first_found}
 use Rattle.flow_maps.proofs.Planning.{none_is, some_is}
 

@@ -1,24 +1,7 @@
 -- What a change of a book makes of the places where signals are recorded.
-use Rattle.std.proofs.Common.{◌≡◌, ◌-◌, ◌+◌, ℕ, zero, suc, Bool, true, false, if◌then◌else◌, cond, List, [], ◌∷◌, ◌++◌, length, take, get_or, ◌<◌, Option, Some, None, is_some, slice_get, slice_set, bytes_eq, refl, sym, ap, subst, ◌∙◌, arith}
-use Rattle.std.specs.BTreeMap.{BTreeMap}
-use Rattle.std.specs.Map.{update}
-use Rattle.std.proofs.lemmas.List.{take_more}
-use Rattle.std.proofs.lemmas.Slice.Eq.{bytes_eq-Decides}
-use Rattle.flow_base.specs.Syntax.{Bytes}
-use Rattle.flow_base.specs.declared.event.Cmd.{Cmd}
-use Rattle.flow_base.specs.declared.event.Event.{Event}
+use Rattle.std.specs.Prelude.{◌≡◌, ◌-◌, ◌+◌, if◌then◌else◌, ◌∷◌, ◌++◌, ◌<◌}
+use Rattle.flow_maps.proofs.Names.{ℕ, zero, suc, Bool, true, false, cond, List, [], length, take, get_or, Option, Some, None, is_some, slice_get, slice_set, bytes_eq, refl, sym, ap, subst, ◌∙◌, arith, BTreeMap, update, take_more, bytes_eq-Decides, Bytes, Cmd, Event, What, Came, Asked, AddRun, AddTurn, Run, Turn, traces, turn_events, Book, nth, changed, with_run, with_turn, unbegun_run, signal_in, is_signal_of, is_run_of, found_in, signalled, signalled_from, nth_at, at_name, is_name, both, SignalEvents, at_request, asked_by, signal_of, or_later, with_history, AreOf, IsTaken, IsUntaken}
 use Rattle.flow_base.specs.declared.event.Input.TheVariants as input
-use Rattle.flow_base.specs.declared.event.What.{What}
-use Rattle.flow_base.specs.declared.event.What.TheVariants.{Came, Asked}
-use Rattle.flow_base.specs.declared.book.Change.TheVariants.{AddRun, AddTurn}
-use Rattle.flow_base.specs.declared.book.Run.{Run}
-use Rattle.flow_base.specs.declared.book.Turn.{Turn}
-use Rattle.flow_model.specs.Turned.{traces, turn_events}
-use Rattle.flow_model.specs.Book.{Book, nth, changed, with_run, with_turn, unbegun_run, signal_in, is_signal_of, is_run_of, found_in, signalled, signalled_from}
-use Rattle.flow_model.proofs.Logs.{nth_at}
-use Rattle.flow_maps.specs.Names.{at_name, is_name, both}
-use Rattle.flow_maps.specs.declared.signals.SignalEvents.{SignalEvents}
-use Rattle.flow_maps.specs.Signals.{at_request, asked_by, signal_of, or_later, with_history, AreOf, IsTaken, IsUntaken}
 use Rattle.flow_maps.proofs.Naming.{by_name, both_own, both_flow, both_request}
 use Rattle.flow_maps.proofs.Planning.{none_is, some_is}
 use Rattle.flow_maps.proofs.Serving.{none_is_there, run_is}

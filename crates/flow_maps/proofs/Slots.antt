@@ -1,22 +1,6 @@
 -- What becomes of timers in order of their dues, and that the first of them is the one that is due first.
-use Rattle.std.proofs.Common.{◌≡◌, ◌≢◌, ℕ, zero, suc, ◌≤◌, ◌<◌, List, [], ◌∷◌, length, Bool, true, false, cond, not, ◌&&◌, ◌||◌, Option, Some, None, slice_get, refl, sym, ap, ◌∙◌, subst, inl, inr, true≢false, arith}
-use Rattle.std.specs.Prelude.{◌⊎◌}
-use Rattle.std.specs.List.{list_any}
-use Rattle.std.specs.Ordering.{nat_cmp, is_eq, is_gt, ordering_then}
-use Rattle.std.proofs.Common.{Ordering, Less, Equal, Greater}
-use Rattle.std.specs.BTreeSet.{BTreeSet, contains, btree_set_len}
-use Rattle.std.proofs.lemmas.Cmp.{ranked, nat_cmp_total, tied_itself}
-use Rattle.std.specs.Cmp.{nat_cmp_is}
-use Rattle.flow_base.specs.declared.book.Due.{Due}
-use Rattle.flow_base.specs.declared.book.Run.{Run}
-use Rattle.flow_base.specs.declared.book.Timer.{Timer}
-use Rattle.flow_model.specs.Book.{Book, nth, least_due}
-use Rattle.flow_model.specs.Open.{timers_left}
-use Rattle.flow_model.proofs.Logs.{nth_at}
-use Rattle.flow_maps.specs.Calendars.{Slot, slot_cmp, is_slot, slot, due_of, date_of_timer, has_slot, HasSlots}
-use Rattle.flow_maps.specs.OfRuns.{is_run}
-use Rattle.flow_maps.specs.Timers.{of_run, timers_of, timers_at}
-use Rattle.flow_model.proofs.DueFirst.{Before, IsLeast, Has, InRuns, the_least, runs_least}
+use Rattle.std.specs.Prelude.{◌≡◌, ◌≢◌, ◌≤◌, ◌<◌, ◌∷◌, ◌&&◌, ◌||◌, ◌⊎◌}
+use Rattle.flow_maps.proofs.Names.{ℕ, zero, suc, List, [], length, Bool, true, false, cond, not, Option, Some, None, slice_get, refl, sym, ap, ◌∙◌, subst, inl, inr, true≢false, arith, list_any, nat_cmp, is_eq, is_gt, ordering_then, Ordering, Less, Equal, Greater, BTreeSet, contains, btree_set_len, ranked, nat_cmp_total, tied_itself, nat_cmp_is, Due, Run, Timer, Book, nth, least_due, timers_left, nth_at, Slot, slot_cmp, is_slot, slot, due_of, date_of_timer, has_slot, HasSlots, is_run, of_run, timers_of, timers_at, Before, IsLeast, Has, InRuns, the_least, runs_least}
 
 ---- Numbers and slots
 

@@ -1,23 +1,6 @@
 -- When there is more to be done, by the slots that come next.
-use Rattle.std.proofs.Common.{◌≡◌, ◌≤◌, ◌<◌, ◌+◌, ℕ, zero, suc, Bool, true, false, if◌then◌else◌, List, [], ◌∷◌, ◌++◌, Option, Some, None, slice_get, refl, sym, ap, subst, ◌∙◌, inl, inr, true≢false, arith}
-use Rattle.std.specs.Prelude.{◌⊎◌, nat_lt}
-use Rattle.std.specs.Prelude.{IfSome}
-use Rattle.std.specs.Ordering.{nat_cmp, is_gt, ordering_then}
-use Rattle.std.specs.BTreeSet.{BTreeSet, contains, IsKeyRangeOf, IsKeyInRange}
-use Rattle.std.specs.BTreeMap.Range.{IsLeBy}
-use Rattle.std.specs.declared.ops.Bound.TheVariants.{Included, Unbounded}
-use Rattle.std.proofs.Common.{Ordering, Less, Equal, Greater}
-use Rattle.std.proofs.lemmas.Cmp.{ranked}
-use Rattle.std.proofs.lemmas.Bool.{cases_Bool, ltb-true, ltb-false, lt-ltb, le-ltb}
-use Rattle.flow_base.specs.declared.book.Run.{Run}
-use Rattle.flow_base.specs.declared.book.OpenActivity.{OpenActivity}
-use Rattle.flow_model.specs.Book.{Book}
-use Rattle.flow_model.proofs.DueFirst.{Has}
-use Rattle.flow_model.proofs.Logs.{nth_at}
-use Rattle.flow_maps.specs.Agenda.{tasks_of, tasks_at}
-use Rattle.flow_maps.specs.Calendars.{Slot, slot_cmp, slot, date_of_task, HasSlots, IsNext}
-use Rattle.flow_maps.specs.Outlooks.{Waiting, waiting, waiting_in, waiting_from, sooner, with_next, with_ready, soonest}
-use Rattle.flow_maps.specs.Timers.{of_run}
+use Rattle.std.specs.Prelude.{◌≡◌, ◌≤◌, ◌<◌, ◌+◌, if◌then◌else◌, ◌∷◌, ◌++◌, ◌⊎◌}
+use Rattle.flow_maps.proofs.Names.{ℕ, zero, suc, Bool, true, false, List, [], Option, Some, None, slice_get, refl, sym, ap, subst, ◌∙◌, inl, inr, true≢false, arith, nat_lt, IfSome, nat_cmp, is_gt, ordering_then, BTreeSet, contains, IsKeyRangeOf, IsKeyInRange, IsLeBy, Included, Unbounded, Ordering, Less, Equal, Greater, ranked, cases_Bool, ltb-true, ltb-false, lt-ltb, le-ltb, Run, OpenActivity, Book, Has, nth_at, tasks_of, tasks_at, Slot, slot_cmp, slot, date_of_task, HasSlots, IsNext, Waiting, waiting, waiting_in, waiting_from, sooner, with_next, with_ready, soonest, of_run}
 use Rattle.flow_maps.proofs.Slots.{has_one, not_true, one_has}
 
 ---- The lesser of moments

@@ -1,19 +1,6 @@
 -- The texts of a book, which no change takes back.
-use Rattle.std.proofs.Common.{◌≡◌, ◌+◌, ◌≤◌, ℕ, zero, suc, Bool, true, false, cond, List, [], ◌∷◌, ◌++◌, length, Option, Some, None, slice_get, refl, sym, ap, subst, ◌∙◌, arith}
-use Rattle.std.specs.Prelude.{IfSome}
-use Rattle.std.specs.BTreeMap.{get, IsUpperBound}
-use Rattle.std.specs.Ordering.{nat_cmp, is_lt}
-use Rattle.std.proofs.Common.{Ordering, Less, Equal, Greater, is_some}
-use Rattle.std.proofs.lemmas.Cmp.{ranked}
-use Rattle.flow_base.specs.Syntax.{Bytes}
-use Rattle.flow_base.specs.declared.book.Change.{Change}
-use Rattle.flow_base.specs.declared.book.Change.TheVariants.{AddText, AddRun, AddTurn, SetAttempt, SetText}
-use Rattle.flow_base.specs.declared.book.Run.{Run}
-use Rattle.flow_model.specs.Book.{Book, nth, changed, with_run, with_turn, with_attempt, with_text}
-use Rattle.flow_model.proofs.Logs.{nth_at}
-use Rattle.flow_maps.specs.declared.texts.TextBodies.{TextBodies}
-use Rattle.flow_maps.specs.KnownTexts.{IsText, KnowsTexts}
-use Rattle.flow_maps.specs.OfRuns.{is_run}
+use Rattle.std.specs.Prelude.{◌≡◌, ◌+◌, ◌≤◌, ◌∷◌, ◌++◌}
+use Rattle.flow_maps.proofs.Names.{ℕ, zero, suc, Bool, true, false, cond, List, [], length, Option, Some, None, slice_get, refl, sym, ap, subst, ◌∙◌, arith, IfSome, get, IsUpperBound, nat_cmp, is_lt, Ordering, Less, Equal, Greater, is_some, ranked, Bytes, Change, AddText, AddRun, AddTurn, SetAttempt, SetText, Run, Book, nth, changed, with_run, with_turn, with_attempt, with_text, nth_at, TextBodies, IsText, KnowsTexts, is_run}
 use Rattle.flow_maps.proofs.Calling.{nth_longer}
 use Rattle.flow_maps.proofs.Planning.{none_is}
 use Rattle.flow_maps.proofs.Serving.{run_is as book_is, none_is_there}

@@ -1,27 +1,6 @@
 -- How a change is taken back: what the books before it and behind it have to do with one another.
-use Rattle.std.proofs.Common.{◌≡◌, ◌-◌, ◌+◌, ℕ, zero, suc, Bool, true, false, if◌then◌else◌, nat_eq, List, [], ◌∷◌, ◌++◌, length, Option, Some, None, Vec, Global, slice_get, slice_set, refl, sym, ap, subst, ◌∙◌, arith}
-use Rattle.std.specs.Prelude.{IfSome, MatchOption}
-use Rattle.flow_base.specs.Syntax.{Bytes}
-use Rattle.flow_base.specs.declared.book.Change.{Change}
-use Rattle.flow_base.specs.declared.book.Change.TheVariants.{AddText, AddRun, AddTurn, SetAttempt, SetText}
-use Rattle.flow_base.specs.declared.book.Run.{Run}
-use Rattle.flow_model.specs.Book.{Book, nth, signalled, with_run}
-use Rattle.flow_view.specs.declared.head.Head.{Head}
-use Rattle.flow_maps.specs.Keys.{IsIndex, name_of, request_key}
-use Rattle.flow_maps.specs.KnownTexts.{KnowsTexts}
-use Rattle.flow_maps.specs.OfRuns.{replaced}
-use Rattle.flow_maps.specs.Seats.{Knows, KnowsOpen, KnowsRuns, made_of}
-use Rattle.flow_maps.specs.Serving.{KnowsFacts, Serves}
-use Rattle.flow_maps.specs.Signals.{IsUntaken}
-use Rattle.flow_maps.specs.Undoing.{GoesBack, IsUndo, Leads, LeadsBack, Returns, WasBefore, WasBegun}
-use Rattle.flow_maps.specs.declared.facts.Facts.{Facts}
-use Rattle.flow_maps.specs.declared.facts.KnownRuns.{KnownRuns}
-use Rattle.flow_maps.specs.declared.maps.Maps.{Maps}
-use Rattle.flow_maps.specs.declared.open_seats.OpenSeats.{OpenSeats}
-use Rattle.flow_maps.specs.declared.texts.TextBodies.{TextBodies}
-use Rattle.flow_maps.specs.declared.undo.Journal.{Journal}
-use Rattle.flow_maps.specs.declared.undo.RunBefore.{RunBefore}
-use Rattle.flow_maps.specs.declared.undo.Undo.{Undo}
+use Rattle.std.specs.Prelude.{◌≡◌, ◌-◌, ◌+◌, if◌then◌else◌, ◌∷◌, ◌++◌}
+use Rattle.flow_maps.proofs.Names.{ℕ, zero, suc, Bool, true, false, nat_eq, List, [], length, Option, Some, None, Vec, Global, slice_get, slice_set, refl, sym, ap, subst, ◌∙◌, arith, IfSome, MatchOption, Bytes, Change, AddText, AddRun, AddTurn, SetAttempt, SetText, Run, Book, nth, signalled, with_run, Head, IsIndex, name_of, request_key, KnowsTexts, replaced, Knows, KnowsOpen, KnowsRuns, made_of, KnowsFacts, Serves, IsUntaken, GoesBack, IsUndo, Leads, LeadsBack, Returns, WasBefore, WasBegun, Facts, KnownRuns, Maps, OpenSeats, TextBodies, Journal, RunBefore, Undo}
 use Rattle.flow_maps.proofs.Planning.{as_long, here_at, less_at, longer, more_at, next_free, none_is, of_at, same_view, set_at, some_is, twice_at}
 use Rattle.flow_maps.proofs.Seating.{known_same}
 use Rattle.flow_maps.proofs.Serving.{run_is}

@@ -1,4 +1,4 @@
-use Rattle.flow_model.specs.Book.{with_turn}
+use Rattle.flow_maps.proofs.Names.{with_turn}
 use Rattle.flow_maps.proofs.calls.add_call.Goals as goal
 
 pub returns-in-Some : goal.returns-in-Some

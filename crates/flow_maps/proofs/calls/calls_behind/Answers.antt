@@ -1,4 +1,5 @@
-use Rattle.std.proofs.Common.{◌≡◌, rules, true}
+use Rattle.std.specs.Prelude.{◌≡◌}
+use Rattle.flow_maps.proofs.Names.{rules, true}
 use Rattle.flow_maps.proofs.Calling.{calls_on}
 use Rattle.flow_maps.proofs.calls.calls_behind.Goals as goal
 

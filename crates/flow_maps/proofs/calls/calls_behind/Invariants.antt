@@ -1,7 +1,5 @@
-use Rattle.std.proofs.Common.{◌≡◌, length}
-use Rattle.flow_base.specs.declared.book.Run.{Run}
-use Rattle.flow_model.specs.Book.{with_turn}
-use Rattle.flow_maps.specs.Seats.{AreCalls}
+use Rattle.std.specs.Prelude.{◌≡◌}
+use Rattle.flow_maps.proofs.Names.{length, Run, with_turn, AreCalls}
 use Rattle.flow_maps.proofs.calls.calls_behind.Given as goal
 
 abbrev pub invariant-loop-place : goal.invariant-loop-place

@@ -1,4 +1,4 @@
-use Rattle.flow_maps.specs.Seats.{AreCalls}
+use Rattle.flow_maps.proofs.Names.{AreCalls}
 use Rattle.flow_maps.proofs.calls.calls_of.Given as goal
 
 abbrev pub invariant-loop-task : goal.invariant-loop-task

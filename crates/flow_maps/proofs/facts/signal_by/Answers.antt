@@ -1,12 +1,5 @@
-use Rattle.std.proofs.Common.{◌≡◌, None, Some, ap, length, refl, sym, ◌∙◌}
-use Rattle.std.specs.Prelude.{Option}
-use Rattle.flow_base.specs.Syntax.{Bytes}
-use Rattle.flow_base.specs.declared.book.Change.TheVariants.{AddTurn}
-use Rattle.flow_base.specs.declared.book.Run.{Run}
-use Rattle.flow_model.specs.Book.{Book, changed, nth, with_attempt, with_run, with_text, with_turn}
-use Rattle.flow_view.specs.declared.head.Head.{Head}
-use Rattle.flow_maps.specs.Seats.{IsSeat}
-use Rattle.flow_maps.specs.Signals.{AreOf, IsUntaken}
+use Rattle.std.specs.Prelude.{◌≡◌}
+use Rattle.flow_maps.proofs.Names.{None, Some, ap, length, refl, sym, ◌∙◌, Option, Bytes, AddTurn, Run, Book, changed, nth, with_attempt, with_run, with_text, with_turn, Head, IsSeat, AreOf, IsUntaken}
 use Rattle.flow_maps.proofs.Serving.{some_weaker}
 use Rattle.flow_maps.proofs.Signalled.{quiet_kept, stays_known}
 use Rattle.flow_maps.proofs.facts.signal_by.Goals as goal

@@ -1,10 +1,4 @@
-use Rattle.std.proofs.Common.{◌∙◌, ℕ, List}
-use Rattle.std.specs.BTreeMap.{get}
-use Rattle.std.specs.Ordering.{nat_cmp}
-use Rattle.flow_base.specs.declared.book.OpenActivity.{OpenActivity}
-use Rattle.flow_model.specs.Book.{nth}
-use Rattle.flow_maps.specs.Outlooks.{is_within}
-use Rattle.flow_maps.specs.Seats.{seat_tasks}
+use Rattle.flow_maps.proofs.Names.{◌∙◌, ℕ, List, get, nat_cmp, OpenActivity, nth, is_within, seat_tasks}
 use Rattle.flow_maps.proofs.Listing.{listed_by, end_of}
 use Rattle.flow_maps.proofs.Seating.{tasks_by_seat}
 use Rattle.flow_maps.proofs.outlook.listed_of.Goals as goal

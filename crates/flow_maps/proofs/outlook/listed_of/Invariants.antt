@@ -1,8 +1,5 @@
-use Rattle.std.proofs.Common.{◌≡◌, ◌++◌, ℕ}
-use Rattle.std.specs.BTreeMap.{get}
-use Rattle.std.specs.Ordering.{nat_cmp}
-use Rattle.flow_maps.specs.Outlooks.{is_within, ready_of}
-use Rattle.flow_maps.specs.Seats.{seat_tasks}
+use Rattle.std.specs.Prelude.{◌≡◌, ◌++◌}
+use Rattle.flow_maps.proofs.Names.{ℕ, get, nat_cmp, is_within, ready_of, seat_tasks}
 use Rattle.flow_maps.proofs.outlook.listed_of.Given as goal
 
 abbrev pub invariant-loop-number : goal.invariant-loop-number

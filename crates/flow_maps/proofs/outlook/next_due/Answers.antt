@@ -1,4 +1,4 @@
-use Rattle.std.proofs.Common.{◌∙◌}
+use Rattle.flow_maps.proofs.Names.{◌∙◌}
 use Rattle.flow_maps.proofs.Sooner.{next_is}
 use Rattle.flow_maps.proofs.outlook.next_due.Goals as goal
 

@@ -1,7 +1,5 @@
-use Rattle.std.proofs.Common.{◌+◌, subst}
-use Rattle.std.specs.BTreeSet.{IsKeyRangeOf}
-use Rattle.std.specs.declared.ops.Bound.TheVariants.{Included, Unbounded}
-use Rattle.flow_maps.specs.Calendars.{slot_cmp}
+use Rattle.std.specs.Prelude.{◌+◌}
+use Rattle.flow_maps.proofs.Names.{subst, IsKeyRangeOf, Included, Unbounded, slot_cmp}
 use Rattle.flow_maps.proofs.Sooner.{next_none, next_some}
 use Rattle.flow_maps.proofs.outlook.next_slot.Goals as goal
 

@@ -1,6 +1,5 @@
-use Rattle.std.proofs.Common.{◌≡◌, ◌∙◌, ap, option_map, rules}
-use Rattle.flow_model.specs.Book.{least_due}
-use Rattle.flow_maps.specs.Outlooks.{due_after, first_timer, moment_of, ready_within, soonest, waiting}
+use Rattle.std.specs.Prelude.{◌≡◌}
+use Rattle.flow_maps.proofs.Names.{◌∙◌, ap, option_map, rules, least_due, due_after, first_timer, moment_of, ready_within, soonest, waiting}
 use Rattle.flow_maps.proofs.outlook.outlook.Goals as goal
 
 pub returns : goal.returns

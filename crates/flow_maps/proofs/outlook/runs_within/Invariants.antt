@@ -1,9 +1,5 @@
-use Rattle.std.proofs.Common.{◌≡◌, ◌||◌, ℕ}
-use Rattle.std.specs.BTreeSet.{contains}
-use Rattle.std.specs.List.{list_any}
-use Rattle.std.specs.Ordering.{nat_cmp}
-use Rattle.flow_maps.specs.Calendars.{Slot, part_within}
-use Rattle.flow_maps.specs.OfRuns.{is_run}
+use Rattle.std.specs.Prelude.{◌≡◌, ◌||◌}
+use Rattle.flow_maps.proofs.Names.{ℕ, contains, list_any, nat_cmp, Slot, part_within, is_run}
 use Rattle.flow_maps.proofs.outlook.runs_within.Given as goal
 
 abbrev pub invariant-loop-slot : goal.invariant-loop-slot

@@ -1,6 +1,4 @@
-use Rattle.std.proofs.Common.{map, sym, ap, ◌∙◌}
-use Rattle.flow_model.specs.Book.{at_attempt}
-use Rattle.flow_view.specs.declared.head.Head.{Head}
+use Rattle.flow_maps.proofs.Names.{map, sym, ap, ◌∙◌, at_attempt, Head}
 use Rattle.flow_maps.proofs.seat.at_attempt.Goals as goal
 
 pub returns-in-Some : goal.returns-in-Some

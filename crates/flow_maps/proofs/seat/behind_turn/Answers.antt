@@ -1,12 +1,5 @@
-use Rattle.std.proofs.Common.{◌≡◌, true, false, rules, sym, ap, subst, ◌∙◌, length}
-use Rattle.std.specs.Prelude.{Option, Some}
-use Rattle.flow_base.specs.declared.book.Run.{Run}
-use Rattle.flow_model.specs.Book.{with_turn}
-use Rattle.flow_view.specs.Heads.{head_of}
-use Rattle.flow_view.specs.declared.head.Head.{Head}
-use Rattle.flow_maps.specs.Agenda.{timers_behind}
-use Rattle.flow_maps.specs.Seats.{IsSeat, IsSeated, head_behind}
-use Rattle.flow_maps.specs.declared.seat.Seat.{Seat}
+use Rattle.std.specs.Prelude.{◌≡◌}
+use Rattle.flow_maps.proofs.Names.{true, false, rules, sym, ap, subst, ◌∙◌, length, Option, Some, Run, with_turn, head_of, Head, timers_behind, IsSeat, IsSeated, head_behind, Seat}
 use Rattle.flow_maps.proofs.Headed.{timers_turned, turned}
 use Rattle.flow_maps.proofs.Serving.{some_weaker}
 use Rattle.flow_maps.proofs.seat.behind_turn.Goals as goal

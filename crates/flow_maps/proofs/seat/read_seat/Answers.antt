@@ -1,4 +1,4 @@
-use Rattle.std.proofs.Common.{sym}
+use Rattle.flow_maps.proofs.Names.{sym}
 use Rattle.flow_maps.proofs.seat.read_seat.Goals as goal
 
 pub returns-in-Ok : goal.returns-in-Ok

@@ -1,8 +1,4 @@
-use Rattle.std.specs.Prelude.{Option, Some}
-use Rattle.flow_base.specs.declared.book.Run.{Run}
-use Rattle.flow_model.specs.Book.{with_attempt, with_text, with_turn}
-use Rattle.flow_maps.specs.Seats.{IsSeat, IsSeated}
-use Rattle.flow_maps.specs.declared.seat.Seat.{Seat}
+use Rattle.flow_maps.proofs.Names.{Option, Some, Run, with_attempt, with_text, with_turn, IsSeat, IsSeated, Seat}
 use Rattle.flow_maps.proofs.Serving.{some_weaker}
 use Rattle.flow_maps.proofs.seat.seat_behind.Goals as goal
 

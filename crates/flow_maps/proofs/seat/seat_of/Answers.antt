@@ -1,10 +1,5 @@
-use Rattle.std.proofs.Common.{◌≡◌, true, false, rules}
-use Rattle.std.specs.Prelude.{IfSome, Option, Some}
-use Rattle.flow_base.specs.declared.book.Run.{Run}
-use Rattle.flow_view.specs.Heads.{head_of}
-use Rattle.flow_maps.specs.Agenda.{is_open_run}
-use Rattle.flow_maps.specs.Seats.{IsSeated}
-use Rattle.flow_maps.specs.declared.seat.Seat.{Seat}
+use Rattle.std.specs.Prelude.{◌≡◌}
+use Rattle.flow_maps.proofs.Names.{true, false, rules, IfSome, Option, Some, Run, head_of, is_open_run, IsSeated, Seat}
 use Rattle.flow_maps.proofs.Serving.{some_weaker}
 use Rattle.flow_maps.proofs.seat.seat_of.Goals as goal
 

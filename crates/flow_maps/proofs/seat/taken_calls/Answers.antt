@@ -1,8 +1,5 @@
-use Rattle.std.proofs.Common.{◌≡◌, ℕ, None, rules, subst, sym}
-use Rattle.std.specs.BTreeMap.{BTreeMap, get}
-use Rattle.std.specs.Ordering.{nat_cmp}
-use Rattle.flow_base.specs.declared.event.Event.{Event}
-use Rattle.flow_maps.specs.Seats.{AreCalls}
+use Rattle.std.specs.Prelude.{◌≡◌}
+use Rattle.flow_maps.proofs.Names.{ℕ, None, rules, subst, sym, BTreeMap, get, nat_cmp, Event, AreCalls}
 use Rattle.flow_maps.proofs.Calling.{no_calls}
 use Rattle.flow_maps.proofs.seat.taken_calls.Goals as goal
 

@@ -1,7 +1,4 @@
-use Rattle.std.proofs.Common.{sym, ◌∙◌, subst, ℕ}
-use Rattle.std.specs.BTreeMap.{BTreeMap}
-use Rattle.flow_base.specs.declared.event.Event.{Event}
-use Rattle.flow_maps.specs.Seats.{AreCalls}
+use Rattle.flow_maps.proofs.Names.{sym, ◌∙◌, subst, ℕ, BTreeMap, Event, AreCalls}
 use Rattle.flow_maps.proofs.seat.taken_on.Goals as goal
 
 pub returns : goal.returns

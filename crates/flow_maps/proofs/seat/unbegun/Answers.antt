@@ -1,6 +1,5 @@
-use Rattle.std.proofs.Common.{◌≡◌, ℕ, None, [], rules, sym}
-use Rattle.std.specs.BTreeMap.{get}
-use Rattle.std.specs.Ordering.{nat_cmp}
+use Rattle.std.specs.Prelude.{◌≡◌}
+use Rattle.flow_maps.proofs.Names.{ℕ, None, [], rules, sym, get, nat_cmp}
 use Rattle.flow_maps.proofs.Calling.{no_calls}
 use Rattle.flow_maps.proofs.seat.unbegun.Goals as goal
 

@@ -1,5 +1,4 @@
-use Rattle.std.proofs.Common.{ap}
-use Rattle.flow_view.specs.declared.head.Head.{Head}
+use Rattle.flow_maps.proofs.Names.{ap, Head}
 use Rattle.flow_maps.proofs.seat.under_text.Goals as goal
 
 pub returns : goal.returns

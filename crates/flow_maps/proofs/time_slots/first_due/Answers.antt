@@ -1,4 +1,5 @@
-use Rattle.std.proofs.Common.{◌<◌, ◌≤◌, Some, subst, sym, ap, ◌∙◌, true≢false}
+use Rattle.std.specs.Prelude.{◌<◌, ◌≤◌}
+use Rattle.flow_maps.proofs.Names.{Some, subst, sym, ap, ◌∙◌, true≢false}
 use Rattle.flow_maps.proofs.Slots.{none_in, none_due, later_due, first_due}
 use Rattle.flow_maps.proofs.time_slots.first_due.Goals as goal
 

@@ -1,5 +1,4 @@
-use Rattle.std.specs.BTreeSet.{contains}
-use Rattle.flow_maps.specs.Calendars.{slot_cmp}
+use Rattle.flow_maps.proofs.Names.{contains, slot_cmp}
 use Rattle.flow_maps.proofs.Slots.{slots_more}
 use Rattle.flow_maps.proofs.time_slots.put_in.Goals as goal
 

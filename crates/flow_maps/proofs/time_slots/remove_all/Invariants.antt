@@ -1,6 +1,5 @@
-use Rattle.std.proofs.Common.{◌≡◌, ◌&&◌, not, drop}
-use Rattle.std.specs.BTreeSet.{contains}
-use Rattle.flow_maps.specs.Calendars.{Slot, slot_cmp, has_slot}
+use Rattle.std.specs.Prelude.{◌≡◌, ◌&&◌}
+use Rattle.flow_maps.proofs.Names.{not, drop, contains, Slot, slot_cmp, has_slot}
 use Rattle.flow_maps.proofs.time_slots.remove_all.Given as goal
 
 abbrev pub invariant-loop-thing : goal.invariant-loop-thing

@@ -1,6 +1,5 @@
-use Rattle.std.proofs.Common.{not, ◌&&◌, sym, ap, ◌∙◌}
-use Rattle.std.specs.BTreeSet.{contains}
-use Rattle.flow_maps.specs.Calendars.{slot_cmp, has_slot}
+use Rattle.std.specs.Prelude.{◌&&◌}
+use Rattle.flow_maps.proofs.Names.{not, sym, ap, ◌∙◌, contains, slot_cmp, has_slot}
 use Rattle.flow_maps.proofs.Slots.{slots_gone}
 use Rattle.flow_maps.proofs.time_slots.take_out.Goals as goal
 

@@ -1,4 +1,4 @@
-use Rattle.std.proofs.Common.{refl, sym}
+use Rattle.flow_maps.proofs.Names.{refl, sym}
 use Rattle.flow_maps.proofs.facts.Facts.add_whole.Goals as goal
 
 pub returns : goal.returns

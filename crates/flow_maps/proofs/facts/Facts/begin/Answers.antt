@@ -1,7 +1,5 @@
-use Rattle.std.proofs.Common.{◌≡◌, None, refl, rules, sym}
-use Rattle.flow_base.specs.declared.book.Change.TheVariants.{AddRun}
-use Rattle.flow_model.specs.Book.{changed, unbegun_run, with_turn}
-use Rattle.flow_maps.specs.Signals.{asked_by}
+use Rattle.std.specs.Prelude.{◌≡◌}
+use Rattle.flow_maps.proofs.Names.{None, refl, rules, sym, AddRun, changed, unbegun_run, with_turn, asked_by}
 use Rattle.flow_maps.proofs.Signalled.{quiet_run, stays_known}
 use Rattle.flow_maps.proofs.facts.Facts.begin.Goals as goal
 

@@ -1,7 +1,4 @@
-use Rattle.std.proofs.Common.{subst, sym}
-use Rattle.flow_model.specs.Book.{Book}
-use Rattle.flow_maps.specs.Seats.{Knows}
-use Rattle.flow_maps.specs.Undoing.{WasBefore}
+use Rattle.flow_maps.proofs.Names.{subst, sym, Book, Knows, WasBefore}
 use Rattle.flow_maps.proofs.facts.Facts.follow.Goals as goal
 
 pub returns-in-Some : goal.returns-in-Some

@@ -1,10 +1,4 @@
-use Rattle.std.proofs.Common.{ℕ, None, Option, Some, refl, subst, sym, ◌∙◌}
-use Rattle.flow_base.specs.declared.book.Run.{Run}
-use Rattle.flow_view.specs.declared.head.Head.{Head}
-use Rattle.flow_maps.specs.Signals.{IsUntaken}
-use Rattle.flow_model.specs.Book.{Book, nth, with_run}
-use Rattle.flow_maps.specs.OfRuns.{replaced}
-use Rattle.flow_maps.specs.Seats.{KnowsRuns, made_of}
+use Rattle.flow_maps.proofs.Names.{ℕ, None, Option, Some, refl, subst, sym, ◌∙◌, Run, Head, IsUntaken, Book, nth, with_run, replaced, KnowsRuns, made_of}
 use Rattle.flow_maps.proofs.Serving.{run_is}
 use Rattle.flow_maps.proofs.Undone.{left_out, made_request, put_again, runs_set}
 use Rattle.flow_maps.proofs.facts.Facts.go_on.Goals as goal

@@ -1,7 +1,5 @@
-use Rattle.std.proofs.Common.{◌≡◌, refl}
-use Rattle.flow_model.specs.Book.{Book, changed, with_run}
-use Rattle.flow_maps.specs.Seats.{Knows, made_of}
-use Rattle.flow_maps.specs.Undoing.{IsUndo}
+use Rattle.std.specs.Prelude.{◌≡◌}
+use Rattle.flow_maps.proofs.Names.{refl, Book, changed, with_run, Knows, made_of, IsUndo}
 use Rattle.flow_maps.proofs.Serving.{some_weaker}
 use Rattle.flow_maps.proofs.facts.Facts.note.Goals as goal
 

@@ -1,8 +1,4 @@
-use Rattle.std.proofs.Common.{ℕ, None, Option, Some, refl, subst, sym}
-use Rattle.flow_base.specs.declared.book.Run.{Run}
-use Rattle.flow_model.specs.Book.{Book, nth}
-use Rattle.flow_maps.specs.OfRuns.{replaced}
-use Rattle.flow_maps.specs.Seats.{KnowsRuns}
+use Rattle.flow_maps.proofs.Names.{ℕ, None, Option, Some, refl, subst, sym, Run, Book, nth, replaced, KnowsRuns}
 use Rattle.flow_maps.proofs.Undone.{back_is, left_out, now_there, put_again, runs_set}
 use Rattle.flow_maps.proofs.facts.Facts.put_run_back.Goals as goal
 

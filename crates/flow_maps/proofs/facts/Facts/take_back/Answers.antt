@@ -1,7 +1,4 @@
-use Rattle.std.proofs.Common.{subst}
-use Rattle.flow_model.specs.Book.{Book}
-use Rattle.flow_maps.specs.Seats.{Knows}
-use Rattle.flow_maps.specs.Undoing.{IsUndo}
+use Rattle.flow_maps.proofs.Names.{subst, Book, Knows, IsUndo}
 use Rattle.flow_maps.proofs.Undone.{texts_less}
 use Rattle.flow_maps.proofs.facts.Facts.take_back.Goals as goal
 

@@ -1,6 +1,5 @@
-use Rattle.std.proofs.Common.{◌++◌, ◌∷◌, [], ap, subst, ◌∙◌}
-use Rattle.flow_model.specs.Book.{Book, signalled}
-use Rattle.flow_maps.specs.Seats.{Knows}
+use Rattle.std.specs.Prelude.{◌++◌, ◌∷◌}
+use Rattle.flow_maps.proofs.Names.{[], ap, subst, ◌∙◌, Book, signalled, Knows}
 use Rattle.flow_maps.proofs.Signalled.{stays_known}
 use Rattle.flow_maps.proofs.facts.Facts.take_run_back.Goals as goal
 

@@ -1,8 +1,5 @@
-use Rattle.std.proofs.Common.{◌≡◌, ℕ, None, Option, Some, refl, rules, subst, sym}
-use Rattle.flow_base.specs.Syntax.{Bytes}
-use Rattle.flow_base.specs.declared.book.Run.{Run}
-use Rattle.flow_maps.specs.Keys.{IsIndex}
-use Rattle.flow_maps.specs.OfRuns.{replaced}
+use Rattle.std.specs.Prelude.{◌≡◌}
+use Rattle.flow_maps.proofs.Names.{ℕ, None, Option, Some, refl, rules, subst, sym, Bytes, Run, IsIndex, replaced}
 use Rattle.flow_maps.proofs.Undone.{runs_more}
 use Rattle.flow_maps.proofs.facts.KnownRuns.add.Goals as goal
 

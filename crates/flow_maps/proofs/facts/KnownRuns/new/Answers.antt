@@ -1,8 +1,5 @@
-use Rattle.std.proofs.Common.{◌≡◌, ℕ, None, length, sym, ap, subst, Option, List, refl}
-use Rattle.flow_base.specs.Syntax.{Bytes}
-use Rattle.flow_base.specs.declared.book.Run.{Run}
-use Rattle.flow_maps.specs.Keys.{IsIndex, name_of, request_key}
-use Rattle.flow_maps.specs.Seats.{KnowsOpen}
+use Rattle.std.specs.Prelude.{◌≡◌}
+use Rattle.flow_maps.proofs.Names.{ℕ, None, length, sym, ap, subst, Option, List, refl, Bytes, Run, IsIndex, name_of, request_key, KnowsOpen}
 use Rattle.flow_maps.proofs.Undone.{no_runs}
 use Rattle.flow_maps.proofs.facts.KnownRuns.new.Goals as goal
 

@@ -1,7 +1,5 @@
-use Rattle.std.proofs.Common.{◌≡◌, ◌+◌, ◌∙◌, ap, rules}
-use Rattle.std.specs.Prelude.{IfSome, length}
-use Rattle.flow_model.specs.Book.{Book}
-use Rattle.flow_maps.specs.Seats.{KnowsRuns}
+use Rattle.std.specs.Prelude.{◌≡◌, ◌+◌}
+use Rattle.flow_maps.proofs.Names.{◌∙◌, ap, rules, IfSome, length, Book, KnowsRuns}
 use Rattle.flow_maps.proofs.Serving.{some_weaker}
 use Rattle.flow_maps.proofs.facts.KnownRuns.next_run.Goals as goal
 

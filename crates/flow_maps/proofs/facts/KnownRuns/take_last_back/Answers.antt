@@ -1,7 +1,5 @@
-use Rattle.std.proofs.Common.{◌≡◌, ℕ, None, Option, ◌∙◌, rules, subst}
-use Rattle.flow_base.specs.declared.book.Run.{Run}
-use Rattle.flow_maps.specs.OfRuns.{replaced}
-use Rattle.flow_maps.specs.Seats.{KnowsOpen}
+use Rattle.std.specs.Prelude.{◌≡◌}
+use Rattle.flow_maps.proofs.Names.{ℕ, None, Option, ◌∙◌, rules, subst, Run, replaced, KnowsOpen}
 use Rattle.flow_maps.proofs.Undone.{runs_less}
 use Rattle.flow_maps.proofs.facts.KnownRuns.take_last_back.Goals as goal
 

@@ -1,6 +1,5 @@
-use Rattle.std.proofs.Common.{rules, None, Some, ◌≡◌, subst, sym}
-use Rattle.flow_maps.specs.Keys.{IsFound}
-use Rattle.flow_maps.specs.Names.{at_name}
+use Rattle.std.specs.Prelude.{◌≡◌}
+use Rattle.flow_maps.proofs.Names.{rules, None, Some, subst, sym, IsFound, at_name}
 use Rattle.flow_maps.proofs.index.Index.find.Goals as goal
 
 pub returns-in_default-get : goal.returns-in_default-get

@@ -1,6 +1,5 @@
-use Rattle.std.proofs.Common.{◌≡◌, ℕ, None, refl, rules, subst, sym}
-use Rattle.flow_maps.specs.Keys.{IsFound}
-use Rattle.flow_maps.specs.Names.{at_name}
+use Rattle.std.specs.Prelude.{◌≡◌}
+use Rattle.flow_maps.proofs.Names.{ℕ, None, refl, rules, subst, sym, IsFound, at_name}
 use Rattle.flow_maps.proofs.index.Index.new.Goals as goal
 
 pub returns : goal.returns

@@ -1,6 +1,5 @@
-use Rattle.std.proofs.Common.{sym, subst, rules, false, is_some, ◌∙◌, ◌≡◌, Some, bytes_eq}
-use Rattle.std.specs.Map.{update}
-use Rattle.flow_maps.specs.Names.{at_name}
+use Rattle.std.specs.Prelude.{◌≡◌}
+use Rattle.flow_maps.proofs.Names.{sym, subst, rules, false, is_some, ◌∙◌, Some, bytes_eq, update, at_name}
 use Rattle.flow_maps.proofs.Keys.{name_put}
 use Rattle.flow_maps.proofs.Naming.{map_updates_name}
 use Rattle.flow_maps.proofs.index.Index.put.Goals as goal

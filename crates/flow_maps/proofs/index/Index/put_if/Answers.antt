@@ -1,7 +1,4 @@
-use Rattle.std.proofs.Common.{ℕ, Option, sym, subst}
-use Rattle.flow_base.specs.Syntax.{Bytes}
-use Rattle.flow_maps.specs.Keys.{IsIndex}
-use Rattle.flow_maps.specs.OfRuns.{replaced}
+use Rattle.flow_maps.proofs.Names.{ℕ, Option, sym, subst, Bytes, IsIndex, replaced}
 use Rattle.flow_maps.proofs.Planning.{same_at}
 use Rattle.flow_maps.proofs.index.Index.put_if.Goals as goal
 

@@ -1,6 +1,5 @@
-use Rattle.std.proofs.Common.{subst, rules, ◌≡◌, None, bytes_eq}
-use Rattle.std.specs.Map.{update}
-use Rattle.flow_maps.specs.Names.{at_name}
+use Rattle.std.specs.Prelude.{◌≡◌}
+use Rattle.flow_maps.proofs.Names.{subst, rules, None, bytes_eq, update, at_name}
 use Rattle.flow_maps.proofs.Keys.{name_out}
 use Rattle.flow_maps.proofs.Naming.{map_updates_name}
 use Rattle.flow_maps.proofs.index.Index.remove.Goals as goal

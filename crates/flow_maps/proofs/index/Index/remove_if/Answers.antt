@@ -1,6 +1,4 @@
-use Rattle.std.proofs.Common.{ℕ, Option, None, ◌∙◌, sym, subst}
-use Rattle.flow_base.specs.Syntax.{Bytes}
-use Rattle.flow_maps.specs.Keys.{IsIndex}
+use Rattle.flow_maps.proofs.Names.{ℕ, Option, None, ◌∙◌, sym, subst, Bytes, IsIndex}
 use Rattle.flow_maps.proofs.Planning.{same_at}
 use Rattle.flow_maps.proofs.index.Index.remove_if.Goals as goal
 

@@ -1,9 +1,5 @@
-use Rattle.std.proofs.Common.{◌≡◌, List, Some, sym, ap, ◌∙◌}
-use Rattle.flow_base.specs.declared.event.Event.{Event}
-use Rattle.flow_model.specs.Book.{Book}
-use Rattle.flow_view.specs.Heads.{event_at, event_if, event_of}
-use Rattle.flow_maps.specs.Seats.{AreCalls}
-use Rattle.flow_maps.specs.Serving.{Serves}
+use Rattle.std.specs.Prelude.{◌≡◌}
+use Rattle.flow_maps.proofs.Names.{List, Some, sym, ap, ◌∙◌, Event, Book, event_at, event_if, event_of, AreCalls, Serves}
 use Rattle.flow_maps.proofs.Serving.{some_weaker}
 use Rattle.flow_maps.proofs.maps.Maps.event.Goals as goal
 

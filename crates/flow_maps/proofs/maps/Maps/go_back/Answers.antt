@@ -1,8 +1,4 @@
-use Rattle.std.proofs.Common.{subst, sym}
-use Rattle.std.specs.Prelude.{MatchOption}
-use Rattle.flow_model.specs.Book.{Book}
-use Rattle.flow_maps.specs.Serving.{Serves}
-use Rattle.flow_maps.specs.Undoing.{Leads}
+use Rattle.flow_maps.proofs.Names.{subst, sym, MatchOption, Book, Serves, Leads}
 use Rattle.flow_maps.proofs.Undone.{returns_on}
 use Rattle.flow_maps.proofs.maps.Maps.go_back.Goals as goal
 

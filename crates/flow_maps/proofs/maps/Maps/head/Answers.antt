@@ -1,7 +1,5 @@
-use Rattle.std.proofs.Common.{◌≡◌, Some, sym, ap, ◌∙◌}
-use Rattle.flow_model.specs.Book.{Book}
-use Rattle.flow_view.specs.Heads.{head_at, head_if}
-use Rattle.flow_maps.specs.Serving.{Serves}
+use Rattle.std.specs.Prelude.{◌≡◌}
+use Rattle.flow_maps.proofs.Names.{Some, sym, ap, ◌∙◌, Book, head_at, head_if, Serves}
 use Rattle.flow_maps.proofs.Serving.{some_weaker}
 use Rattle.flow_maps.proofs.maps.Maps.head.Goals as goal
 

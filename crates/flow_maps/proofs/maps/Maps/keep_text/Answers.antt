@@ -1,4 +1,4 @@
-use Rattle.std.proofs.Common.{Some, ap, ◌∙◌, sym}
+use Rattle.flow_maps.proofs.Names.{Some, ap, ◌∙◌, sym}
 use Rattle.flow_maps.proofs.maps.Maps.keep_text.Goals as goal
 
 pub returns-in-Ok-clause-serves : goal.returns-in-Ok-clause-serves

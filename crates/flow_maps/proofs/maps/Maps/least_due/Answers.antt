@@ -1,12 +1,7 @@
-use Rattle.std.proofs.Common.{◌≡◌}
-use Rattle.std.specs.Prelude.{Option, ℕ}
-use Rattle.flow_model.specs.Book.{Book}
-use Rattle.flow_maps.specs.Serving.{Serves}
+use Rattle.std.specs.Prelude.{◌≡◌}
+use Rattle.flow_maps.proofs.Names.{Option, ℕ, Book, Serves, least_due, HasSlots, date_of_timer, timers_at}
 use Rattle.flow_maps.proofs.Serving.{some_weaker}
 use Rattle.flow_maps.proofs.Undone.{known_facts}
-use Rattle.flow_model.specs.Book.{least_due}
-use Rattle.flow_maps.specs.Calendars.{HasSlots, date_of_timer}
-use Rattle.flow_maps.specs.Timers.{timers_at}
 use Rattle.flow_maps.proofs.maps.Maps.least_due.Goals as goal
 
 pub returns-in-Some : goal.returns-in-Some

@@ -1,6 +1,4 @@
-use Rattle.flow_model.specs.Book.{Book, changed}
-use Rattle.flow_maps.specs.Serving.{KnowsFacts}
-use Rattle.flow_maps.specs.Undoing.{IsUndo}
+use Rattle.flow_maps.proofs.Names.{Book, changed, KnowsFacts, IsUndo}
 use Rattle.flow_maps.proofs.Serving.{some_weaker}
 use Rattle.flow_maps.proofs.Staying.{texts_stay}
 use Rattle.flow_maps.proofs.maps.Maps.note.Goals as goal

@@ -1,12 +1,7 @@
-use Rattle.std.proofs.Common.{◌≡◌}
-use Rattle.std.specs.Prelude.{Option, ℕ}
-use Rattle.flow_model.specs.Book.{Book}
-use Rattle.flow_maps.specs.Serving.{Serves}
+use Rattle.std.specs.Prelude.{◌≡◌}
+use Rattle.flow_maps.proofs.Names.{Option, ℕ, Book, Serves, Bytes, nth, open_run, IsFound, IsIndex, name_of, open_key}
 use Rattle.flow_maps.proofs.Serving.{some_weaker}
 use Rattle.flow_maps.proofs.Undone.{known_facts}
-use Rattle.flow_base.specs.Syntax.{Bytes}
-use Rattle.flow_model.specs.Book.{nth, open_run}
-use Rattle.flow_maps.specs.Keys.{IsFound, IsIndex, name_of, open_key}
 use Rattle.flow_maps.proofs.Serving.{open_found}
 use Rattle.flow_maps.proofs.maps.Maps.open_run.Goals as goal
 

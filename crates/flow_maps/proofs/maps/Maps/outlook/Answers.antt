@@ -1,12 +1,7 @@
-use Rattle.std.proofs.Common.{◌≡◌}
-use Rattle.std.specs.Prelude.{Option, ℕ}
-use Rattle.flow_model.specs.Book.{Book}
-use Rattle.flow_maps.specs.Serving.{Serves}
+use Rattle.std.specs.Prelude.{◌≡◌}
+use Rattle.flow_maps.proofs.Names.{Option, ℕ, Book, Serves, nth, outlook_of, KnowsOpen}
 use Rattle.flow_maps.proofs.Serving.{some_weaker}
 use Rattle.flow_maps.proofs.Undone.{known_facts}
-use Rattle.flow_model.specs.Book.{nth}
-use Rattle.flow_maps.specs.Outlooks.{outlook_of}
-use Rattle.flow_maps.specs.Seats.{KnowsOpen}
 use Rattle.flow_maps.proofs.maps.Maps.outlook.Goals as goal
 
 pub returns-in-Some : goal.returns-in-Some

@@ -1,9 +1,5 @@
-use Rattle.std.proofs.Common.{◌≡◌, ap, ◌∙◌}
-use Rattle.std.specs.Prelude.{Option, Some, ℕ}
-use Rattle.flow_base.specs.declared.book.Run.{Run}
-use Rattle.flow_model.specs.Book.{Book, nth}
-use Rattle.flow_maps.specs.Seats.{IsSeat, IsSeated, KnowsOpen}
-use Rattle.flow_maps.specs.Serving.{Serves}
+use Rattle.std.specs.Prelude.{◌≡◌}
+use Rattle.flow_maps.proofs.Names.{ap, ◌∙◌, Option, Some, ℕ, Run, Book, nth, IsSeat, IsSeated, KnowsOpen, Serves}
 use Rattle.flow_maps.proofs.Serving.{some_weaker}
 use Rattle.flow_maps.proofs.Undone.{known_facts}
 use Rattle.flow_maps.proofs.maps.Maps.seat.Goals as goal

@@ -1,11 +1,7 @@
-use Rattle.std.proofs.Common.{◌≡◌}
-use Rattle.std.specs.Prelude.{Option, ℕ}
-use Rattle.flow_model.specs.Book.{Book}
-use Rattle.flow_maps.specs.Serving.{Serves}
+use Rattle.std.specs.Prelude.{◌≡◌}
+use Rattle.flow_maps.proofs.Names.{Option, ℕ, Book, Serves, signalled, AreOf}
 use Rattle.flow_maps.proofs.Serving.{some_weaker}
 use Rattle.flow_maps.proofs.Undone.{known_facts}
-use Rattle.flow_model.specs.Book.{signalled}
-use Rattle.flow_maps.specs.Signals.{AreOf}
 use Rattle.flow_maps.proofs.maps.Maps.signalled.Goals as goal
 
 pub returns-in-Some : goal.returns-in-Some

@@ -1,5 +1,4 @@
-use Rattle.std.proofs.Common.{subst, sym}
-use Rattle.flow_maps.specs.Serving.{KnowsFacts}
+use Rattle.flow_maps.proofs.Names.{subst, sym, KnowsFacts}
 use Rattle.flow_maps.proofs.maps.Maps.take_back.Goals as goal
 
 pub returns : goal.returns

@@ -1,7 +1,4 @@
-use Rattle.std.proofs.Common.{subst}
-use Rattle.flow_model.specs.Book.{Book}
-use Rattle.flow_maps.specs.KnownTexts.{KnowsTexts}
-use Rattle.flow_maps.specs.Undoing.{IsUndo}
+use Rattle.flow_maps.proofs.Names.{subst, Book, KnowsTexts, IsUndo}
 use Rattle.flow_maps.proofs.Undone.{texts_kept}
 use Rattle.flow_maps.proofs.maps.Maps.take_text_back.Goals as goal
 

@@ -1,7 +1,5 @@
-use Rattle.std.proofs.Common.{◌≡◌, Some}
-use Rattle.flow_model.specs.Book.{Book, nth}
-use Rattle.flow_maps.specs.KnownTexts.{KnowsTexts}
-use Rattle.flow_maps.specs.Serving.{Serves}
+use Rattle.std.specs.Prelude.{◌≡◌}
+use Rattle.flow_maps.proofs.Names.{Some, Book, nth, KnowsTexts, Serves}
 use Rattle.flow_maps.proofs.Serving.{some_weaker}
 use Rattle.flow_maps.proofs.maps.Maps.text.Goals as goal
 

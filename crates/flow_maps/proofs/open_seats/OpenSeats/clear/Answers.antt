@@ -1,7 +1,5 @@
-use Rattle.std.proofs.Common.{◌≡◌, None, Some, false, is_some, rules, sym, ◌∙◌, subst, true}
-use Rattle.std.specs.Prelude.{Option, IfSome, ℕ}
-use Rattle.std.specs.BTreeMap.{get}
-use Rattle.std.specs.Ordering.{nat_cmp}
+use Rattle.std.specs.Prelude.{◌≡◌}
+use Rattle.flow_maps.proofs.Names.{None, Some, false, is_some, rules, sym, ◌∙◌, subst, true, Option, IfSome, ℕ, get, nat_cmp}
 use Rattle.flow_maps.proofs.Seating.{taken_clear, unseated}
 use Rattle.flow_maps.proofs.Signalled.{is_nothing}
 use Rattle.flow_maps.proofs.open_seats.OpenSeats.clear.Goals as goal

@@ -1,4 +1,5 @@
-use Rattle.std.proofs.Common.{◌≡◌, length, rules}
+use Rattle.std.specs.Prelude.{◌≡◌}
+use Rattle.flow_maps.proofs.Names.{length, rules}
 use Rattle.flow_maps.proofs.Seating.{count_open}
 use Rattle.flow_maps.proofs.open_seats.OpenSeats.count.Goals as goal
 

@@ -1,11 +1,5 @@
-use Rattle.std.proofs.Common.{◌≡◌, ℕ, None, rules}
-use Rattle.std.specs.BTreeMap.{get}
-use Rattle.std.specs.BTreeSet.{contains}
-use Rattle.std.specs.Ordering.{nat_cmp}
-use Rattle.std.proofs.Common.{false, sym, subst, Option}
-use Rattle.flow_maps.specs.Calendars.{Slot, slot_cmp}
-use Rattle.flow_maps.specs.Seats.{IsSeated}
-use Rattle.flow_maps.specs.declared.seat.Seat.{Seat}
+use Rattle.std.specs.Prelude.{◌≡◌}
+use Rattle.flow_maps.proofs.Names.{ℕ, None, rules, get, contains, nat_cmp, false, sym, subst, Option, Slot, slot_cmp, IsSeated, Seat}
 use Rattle.flow_maps.proofs.open_seats.OpenSeats.new.Goals as goal
 
 pub returns : goal.returns

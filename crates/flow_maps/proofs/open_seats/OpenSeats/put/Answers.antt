@@ -1,5 +1,4 @@
-use Rattle.std.proofs.Common.{Some, sym, subst}
-use Rattle.flow_maps.specs.Seats.{IsSeated}
+use Rattle.flow_maps.proofs.Names.{Some, sym, subst, IsSeated}
 use Rattle.flow_maps.proofs.Seating.{closed_in}
 use Rattle.flow_maps.proofs.open_seats.OpenSeats.put.Goals as goal
 

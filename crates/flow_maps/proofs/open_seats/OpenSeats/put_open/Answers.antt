@@ -1,8 +1,4 @@
-use Rattle.std.proofs.Common.{List, ℕ, subst, ◌∙◌}
-use Rattle.flow_base.specs.declared.book.OpenActivity.{OpenActivity}
-use Rattle.flow_base.specs.declared.book.Timer.{Timer}
-use Rattle.flow_maps.specs.Calendars.{HasSlots, date_of_task, date_of_timer}
-use Rattle.flow_maps.specs.OfRuns.{replaced}
+use Rattle.flow_maps.proofs.Names.{List, ℕ, subst, ◌∙◌, OpenActivity, Timer, HasSlots, date_of_task, date_of_timer, replaced}
 use Rattle.flow_maps.proofs.Seating.{seat_in}
 use Rattle.flow_maps.proofs.open_seats.OpenSeats.put_open.Goals as goal
 

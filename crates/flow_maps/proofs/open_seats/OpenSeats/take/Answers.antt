@@ -1,4 +1,4 @@
-use Rattle.std.proofs.Common.{sym, ◌∙◌}
+use Rattle.flow_maps.proofs.Names.{sym, ◌∙◌}
 use Rattle.flow_maps.proofs.Seating.{seat_out}
 use Rattle.flow_maps.proofs.open_seats.OpenSeats.take.Goals as goal
 

@@ -1,12 +1,8 @@
-use Rattle.std.proofs.Common.{◌≡◌, ℕ, Some, None, sym, rules}
-use Rattle.flow_base.specs.declared.book.Change.TheVariants.{AddTurn}
-use Rattle.flow_base.specs.declared.book.Run.{Run}
-use Rattle.flow_model.specs.Book.{Book, changed, nth}
-use Rattle.flow_maps.specs.Signals.{AreOf, IsTaken, IsUntaken, asked_by}
+use Rattle.std.specs.Prelude.{◌≡◌}
+use Rattle.flow_maps.proofs.Names.{ℕ, Some, None, sym, rules, AddTurn, Run, Book, changed, nth, AreOf, IsTaken, IsUntaken, asked_by, length}
 use Rattle.flow_maps.proofs.Serving.{some_weaker}
 use Rattle.flow_maps.proofs.Signalled.{quiet_turn, signal_taken, stays_known}
 use Rattle.flow_maps.proofs.signals.SignalEvents.follow.Goals as goal
-use Rattle.std.proofs.Common.{length}
 
 pub returns-in-Some : goal.returns-in-Some
 returns-in-Some c =

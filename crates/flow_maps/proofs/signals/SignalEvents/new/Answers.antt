@@ -1,6 +1,5 @@
-use Rattle.std.proofs.Common.{◌≡◌, None, rules}
-use Rattle.flow_base.specs.Syntax.{Bytes}
-use Rattle.flow_maps.specs.Signals.{at_request}
+use Rattle.std.specs.Prelude.{◌≡◌}
+use Rattle.flow_maps.proofs.Names.{None, rules, Bytes, at_request}
 use Rattle.flow_maps.proofs.Signalled.{none_recorded}
 use Rattle.flow_maps.proofs.signals.SignalEvents.new.Goals as goal
 

@@ -1,5 +1,4 @@
-use Rattle.std.proofs.Common.{subst}
-use Rattle.flow_maps.specs.Signals.{IsUntaken}
+use Rattle.flow_maps.proofs.Names.{subst, IsUntaken}
 use Rattle.flow_maps.proofs.Signalled.{stays_known, untaken_known}
 use Rattle.flow_maps.proofs.signals.SignalEvents.put_back.Goals as goal
 

@@ -1,5 +1,4 @@
-use Rattle.std.proofs.Common.{None}
-use Rattle.flow_maps.specs.Names.{both}
+use Rattle.flow_maps.proofs.Names.{None, both}
 use Rattle.flow_maps.proofs.Naming.{map_updates_name}
 use Rattle.flow_maps.proofs.Signalled.{removed}
 use Rattle.flow_maps.proofs.signals.SignalEvents.remove.Goals as goal

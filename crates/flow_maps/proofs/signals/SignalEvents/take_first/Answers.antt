@@ -1,5 +1,4 @@
-use Rattle.std.proofs.Common.{Some, ap, sym, subst, ◌∙◌}
-use Rattle.flow_maps.specs.Signals.{IsUntaken}
+use Rattle.flow_maps.proofs.Names.{Some, ap, sym, subst, ◌∙◌, IsUntaken}
 use Rattle.flow_maps.proofs.Signalled.{first_untaken, taken_known}
 use Rattle.flow_maps.proofs.signals.SignalEvents.take_first.Goals as goal
 
