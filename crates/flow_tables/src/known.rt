@@ -5,6 +5,7 @@ ghost use Rattle.std.specs.Prelude.{◌≡◌};
 ghost use Rattle.flow_maps.specs.Serving.{Serves};
 ghost use Rattle.flow_tables.specs.Known as words;
 ghost use Rattle.flow_tables.specs.Names.{Book, Tables, Tells};
+ghost use Rattle.flow_tables.specs.Puts.{texts_counted};
 
 use flow_base::book::{Change, OpenActivity, Timer};
 use flow_base::effect::{Effect, effect_of};
@@ -191,12 +192,23 @@ fn run_known(maps: &Maps, number: RunId) -> Option<KnownRun>
 }
 
 /// The same of the run that a change is of.
-pub(crate) fn changed_known(maps: &Maps, change: &Change) -> Option<KnownRun>
+fn changed_known(maps: &Maps, change: &Change) -> Option<KnownRun>
     ensures { (b : Book) → (t : Tables) → Serves maps.now b → Tells t b → words.OfRun result t }
 {
     match change {
         Change::AddTurn(run, _) => run_known(maps, *run),
         Change::SetAttempt(run, _, _, _) => run_known(maps, *run),
         _ => None,
+    }
+}
+
+/// What is known of the rows that a change is of, where so many texts are known.
+pub(crate) fn row_facts(maps: &Maps, texts: Option<u64>, change: &Change) -> RowFacts
+    ensures { (b : Book) → (t : Tables) → Serves maps.now b → Tells t b → words.OfCount texts (texts_counted t) → words.IsKnown result t }
+{
+    RowFacts {
+        run: changed_known(maps, change),
+        texts,
+        runs: maps.run_count(),
     }
 }
