@@ -32,10 +32,10 @@ pub struct Seat {
 fn closed(tasks: &[OpenActivity]) -> Option<Option<Seat>>
     ensures { IfSome result (λ o. (r : ARun) → r.tasks ≡ tasks.now → (heads.head_of r).is_open ≡ false → IsSeated o (Some r)) }
 {
-    match tasks {
-        [] => Some(None),
-        _ => None,
+    if tasks.is_empty() {
+        return Some(None);
     }
+    None
 }
 
 /// The timers of a run that was read whole, if there is memory for them.
