@@ -52,8 +52,12 @@ fn read_timers(alloc: Global, whole: &Run) -> Option<Sequence<Timer>>
 fn read_seat(alloc: Global, whole: &Run) -> Option<Seat>
     ensures { IfSome result (λ s. IsSeat s whole.now) }
 {
-    let timers = read_timers(alloc, whole)?;
-    let calls = calls_of(alloc, whole)?;
+    let Some(timers) = read_timers(alloc, whole) else {
+        return None;
+    };
+    let Some(calls) = calls_of(alloc, whole) else {
+        return None;
+    };
     match head_of(alloc, whole) {
         Ok(head) => Some(Seat {
             head,
@@ -89,8 +93,12 @@ fn taken_calls(alloc: Global, calls: &mut Calls) -> Calls
 pub(crate) fn taken_on(alloc: Global, seat: &mut Seat) -> Option<Seat>
     ensures { IfSome result (λ s. (r : ARun) → IsSeat seat.old r → IsSeat s r × IsSeat seat.new r) }
 {
-    let head = copied_if(alloc, &seat.head)?;
-    let timers = copied_timers(alloc, seat.timers.as_slice())?;
+    let Some(head) = copied_if(alloc, &seat.head) else {
+        return None;
+    };
+    let Some(timers) = copied_timers(alloc, seat.timers.as_slice()) else {
+        return None;
+    };
     let calls = taken_calls(alloc, &mut seat.calls);
     Some(Seat {
         head,
@@ -122,7 +130,8 @@ fn behind_turn(alloc: Global, seat: Seat, turn: &Turn) -> Option<Option<Seat>>
     let Some(head) = head_behind(alloc, head, turn) else {
         return None;
     };
-    if !head.is_open {
+    let stays_open = head.is_open;
+    if !stays_open {
         return closed(head.tasks.as_slice());
     }
     let Some(timers) = timers_behind(alloc, timers, count, turn) else {

@@ -10,3 +10,6 @@ pub loop-place-preserved : goal.loop-place-preserved
 loop-place-preserved c r long known =
     let added : c.add_call.result ≡ true = search rules in
     c.add_call.ensures added r long (c.loop-place.invariant r long known)
+
+pub returns : goal.returns
+returns c = c.loop-place.invariant

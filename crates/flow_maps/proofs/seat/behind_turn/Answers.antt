@@ -4,8 +4,8 @@ use Rattle.flow_maps.proofs.Headed.{timers_turned, turned}
 use Rattle.flow_maps.proofs.Serving.{some_weaker}
 use Rattle.flow_maps.proofs.seat.behind_turn.Goals as goal
 
-pub returns-then-not-is_open : goal.returns-then-not-is_open
-returns-then-not-is_open c =
+pub returns-then-not-stays_open : goal.returns-then-not-stays_open
+returns-then-not-stays_open c =
     let t = c.args.turn.now in
     let shut : c.in-Some.head.is_open ≡ false = search rules in
     some_weaker c.closed.result (λ (o : Option Seat). (r : Run) → r.tasks ≡ c.as_slice.result.now → (head_of r).is_open ≡ false → IsSeated o (Some r)) (λ o. (r : Run) → IsSeat c.args.seat r → IsSeated o (Some (with_turn t r)))

@@ -11,18 +11,15 @@ returns-in-AddRun c = rw c.in-AddRun.is c.begin.ensures
 
 pub returns-in-AddTurn : goal.returns-in-AddTurn
 returns-in-AddTurn c =
-    let change = c.args.change.now in
-    some_weaker c.follow.result (λ u. (b : Book) → changed b change ≡ with_run b c.in-AddTurn.run' (made_of change) → Knows c.args.self.now b → Knows c.follow.new.self (changed b change) × IsUndo u b (changed b change))
-    (λ u. (b : Book) → Knows c.args.self.now b → Knows c.follow.new.self (changed b change) × IsUndo u b (changed b change)) (λ u is b h. is b (rw c.in-AddTurn.is refl) h) c.follow.ensures
+    some_weaker c.follow.result (λ u. (b : Book) → changed b c.args.change.now ≡ with_run b c.in-AddTurn.run' (made_of c.args.change.now) → Knows c.args.self.now b → Knows c.follow.new.self (changed b c.args.change.now) × IsUndo u b (changed b c.args.change.now))
+    (λ u. (b : Book) → Knows c.args.self.now b → Knows c.follow.new.self (changed b c.args.change.now) × IsUndo u b (changed b c.args.change.now)) (λ u is b h. is b (rw c.in-AddTurn.is refl) h) c.follow.ensures
 
 pub returns-in-SetAttempt : goal.returns-in-SetAttempt
 returns-in-SetAttempt c =
-    let change = c.args.change.now in
-    some_weaker c.follow-in-SetAttempt.result (λ u. (b : Book) → changed b change ≡ with_run b c.in-SetAttempt.run' (made_of change) → Knows c.args.self.now b → Knows c.follow-in-SetAttempt.new.self (changed b change) × IsUndo u b (changed b change))
-    (λ u. (b : Book) → Knows c.args.self.now b → Knows c.follow-in-SetAttempt.new.self (changed b change) × IsUndo u b (changed b change)) (λ u is b h. is b (rw c.in-SetAttempt.is refl) h) c.follow-in-SetAttempt.ensures
+    some_weaker c.follow-in-SetAttempt.result (λ u. (b : Book) → changed b c.args.change.now ≡ with_run b c.in-SetAttempt.run' (made_of c.args.change.now) → Knows c.args.self.now b → Knows c.follow-in-SetAttempt.new.self (changed b c.args.change.now) × IsUndo u b (changed b c.args.change.now))
+    (λ u. (b : Book) → Knows c.args.self.now b → Knows c.follow-in-SetAttempt.new.self (changed b c.args.change.now) × IsUndo u b (changed b c.args.change.now)) (λ u is b h. is b (rw c.in-SetAttempt.is refl) h) c.follow-in-SetAttempt.ensures
 
 pub returns-in-SetText : goal.returns-in-SetText
 returns-in-SetText c =
-    let change = c.args.change.now in
-    some_weaker c.follow-in-SetText.result (λ u. (b : Book) → changed b change ≡ with_run b c.in-SetText.run' (made_of change) → Knows c.args.self.now b → Knows c.follow-in-SetText.new.self (changed b change) × IsUndo u b (changed b change))
-    (λ u. (b : Book) → Knows c.args.self.now b → Knows c.follow-in-SetText.new.self (changed b change) × IsUndo u b (changed b change)) (λ u is b h. is b (rw c.in-SetText.is refl) h) c.follow-in-SetText.ensures
+    some_weaker c.follow-in-SetText.result (λ u. (b : Book) → changed b c.args.change.now ≡ with_run b c.in-SetText.run' (made_of c.args.change.now) → Knows c.args.self.now b → Knows c.follow-in-SetText.new.self (changed b c.args.change.now) × IsUndo u b (changed b c.args.change.now))
+    (λ u. (b : Book) → Knows c.args.self.now b → Knows c.follow-in-SetText.new.self (changed b c.args.change.now) × IsUndo u b (changed b c.args.change.now)) (λ u is b h. is b (rw c.in-SetText.is refl) h) c.follow-in-SetText.ensures
