@@ -1,6 +1,6 @@
 -- What a turn makes of a run's head and of its timers.
 use Rattle.std.specs.Prelude.{◌≡◌, ◌+◌, ◌∷◌, ◌++◌}
-use Rattle.flow_maps.proofs.Names.{List, [], ℕ, length, refl, sym, ap, ◌∙◌, arith, length-append, Cmd, Event, Run, Timer, Turn, with_turn, moment_after, open_timers, timers_after, timers_after_one, traces, turn_events, head_of, events_behind, tasks_behind, timers_behind, head_behind}
+use Rattle.flow_maps.proofs.Names.{suc, List, [], ℕ, length, refl, sym, ap, ◌∙◌, arith, length-append, Cmd, Event, Run, Timer, Turn, with_turn, moment_after, open_timers, timers_after, timers_after_one, traces, turn_events, head_of, events_behind, tasks_behind, timers_behind, head_behind}
 use Rattle.flow_model.specs.Open.{moment_of}
 use Rattle.flow_maps.proofs.Serving.{turn_open}
 
