@@ -31,30 +31,35 @@ module _ (q : Bytes) (f : ℕ → Option Bytes) (run : ℕ) (x : Option Bytes) w
       there n true has = absurd (true≢false (sym has ∙ comes))
       there n false has = h.1 n has
 
+-- a run that had no name has this one, which none had
+own_put : (q : Bytes) (f : ℕ → Option Bytes) (run number : ℕ) (k : Bytes) → number ≡ run → bytes_eq k q ≡ true → IsFound None q f → IsFound (Some number) q (replaced run (Some k) f)
+own_put q f run number k is own nothing = (ap (λ n. is_key q (replaced run (Some k) f n)) is ∙ ap (is_key q) (here_at run (Some k) f) ∙ own, λ n. there n (is_run run n) refl)
+  where
+    there : (n : ℕ) (v : Bool) → is_run run n ≡ v → is_key q (cond v (Some k) (f n)) ≡ true → n ≡ number
+    there n true here has = sym (is ∙ run_is run n here)
+    there n false away has = absurd (true≢false (sym has ∙ nothing n))
+
+-- it has it no more
+own_out : (o : Option ℕ) (q : Bytes) (f : ℕ → Option Bytes) (run : ℕ) (k : Bytes) → f run ≡ Some k → bytes_eq k q ≡ true → IsFound o q f → IsFound None q (replaced run None f)
+own_out o q f run k is own h n = there (is_run run n) refl
+  where
+    there : (v : Bool) → is_run run n ≡ v → is_key q (cond v None (f n)) ≡ false
+    there true here = refl
+    there false away = not_true (is_key q (f n)) (λ has. true≢false (sym (subst (λ i. is_run run i ≡ true) (only_one o q f run n h (ap (is_key q) is ∙ own) has) (run_itself run)) ∙ away))
+
 module _ (m m' : Index) (k : Bytes) (f : ℕ → Option Bytes) (run : ℕ) (h : IsIndex m f) where
   pub name_put : (number : ℕ) → f run ≡ None → is_some (at_name m.map k) ≡ false → number ≡ run → ((q : Bytes) → at_name m'.map q ≡ update bytes_eq (at_name m.map) k (Some number) q) → IsIndex m' (replaced run (Some k) f)
   name_put number none free is updates q = subst (λ o. IsFound o q (replaced run (Some k) f)) (sym (updates q)) (go (bytes_eq k q) refl)
     where
       go : (v : Bool) → bytes_eq k q ≡ v → IsFound (cond v (Some number) (at_name m.map q)) q (replaced run (Some k) f)
-      go true own = (ap (λ n. is_key q (replaced run (Some k) f n)) is ∙ ap (is_key q) (here_at run (Some k) f) ∙ own, λ n. there n (is_run run n) refl)
-        where
-          nothing : IsFound None q f
-          nothing = subst (λ o. IsFound o q f) (subst (λ x. at_name m.map x ≡ None) ((bytes_eq-Decides k q).0 own) (no_value (at_name m.map k) free)) (h q)
-
-          there : (n : ℕ) (v : Bool) → is_run run n ≡ v → is_key q (cond v (Some k) (f n)) ≡ true → n ≡ number
-          there n true here has = sym (is ∙ run_is run n here)
-          there n false away has = absurd (true≢false (sym has ∙ nothing n))
+      go true own = own_put q f run number k is own (subst (λ o. IsFound o q f) (subst (λ x. at_name m.map x ≡ None) ((bytes_eq-Decides k q).0 own) (no_value (at_name m.map k) free)) (h q))
       go false other = other_at q f run (Some k) (at_name m.map q) other (ap (is_key q) none) (h q)
 
   pub name_out : f run ≡ Some k → ((q : Bytes) → at_name m'.map q ≡ update bytes_eq (at_name m.map) k None q) → IsIndex m' (replaced run None f)
   name_out is updates q = subst (λ o. IsFound o q (replaced run None f)) (sym (updates q)) (go (bytes_eq k q) refl)
     where
       go : (v : Bool) → bytes_eq k q ≡ v → IsFound (cond v None (at_name m.map q)) q (replaced run None f)
-      go true own = λ n. there n (is_run run n) refl
-        where
-          there : (n : ℕ) (v : Bool) → is_run run n ≡ v → is_key q (cond v None (f n)) ≡ false
-          there n true here = refl
-          there n false away = not_true (is_key q (f n)) (λ has. true≢false (sym (subst (λ i. is_run run i ≡ true) (only_one (at_name m.map q) q f run n (h q) (ap (is_key q) is ∙ own) has) (run_itself run)) ∙ away))
+      go true own = own_out (at_name m.map q) q f run k is own (h q)
       go false other = other_at q f run None (at_name m.map q) refl (ap (is_key q) is ∙ other) (h q)
 
 ---- What is found
