@@ -1,6 +1,6 @@
 -- How a change is taken back: what the books before it and behind it have to do with one another.
 use Rattle.std.specs.Prelude.{◌≡◌, ◌-◌, ◌+◌, if◌then◌else◌, ◌∷◌, ◌++◌}
-use Rattle.flow_maps.proofs.Names.{ℕ, zero, suc, Bool, true, false, nat_eq, List, [], length, Option, Some, None, Vec, Global, slice_get, slice_set, refl, sym, ap, subst, ◌∙◌, arith, IfSome, MatchOption, Bytes, Change, AddText, AddRun, AddTurn, SetAttempt, SetText, Run, Book, nth, signalled, with_run, Head, IsIndex, name_of, request_key, KnowsTexts, replaced, Knows, KnowsOpen, KnowsRuns, made_of, KnowsFacts, Serves, IsUntaken, GoesBack, IsUndo, Leads, LeadsBack, Returns, WasBefore, WasBegun, Facts, KnownRuns, Maps, OpenSeats, TextBodies, Journal, RunBefore, Undo}
+use Rattle.flow_maps.proofs.Names.{cases_Bool, inl, inr, ℕ, zero, suc, Bool, true, false, nat_eq, List, [], length, Option, Some, None, Vec, Global, slice_get, slice_set, refl, sym, ap, subst, ◌∙◌, arith, IfSome, MatchOption, Bytes, Change, AddText, AddRun, AddTurn, SetAttempt, SetText, Run, Book, nth, signalled, with_run, Head, IsIndex, name_of, request_key, KnowsTexts, replaced, Knows, KnowsOpen, KnowsRuns, made_of, KnowsFacts, Serves, IsUntaken, GoesBack, IsUndo, Leads, LeadsBack, Returns, WasBefore, WasBegun, Facts, KnownRuns, Maps, OpenSeats, TextBodies, Journal, RunBefore, Undo}
 use Rattle.flow_maps.proofs.Planning.{as_long, here_at, less_at, longer, more_at, next_free, none_is, of_at, same_view, set_at, some_is, twice_at}
 use Rattle.flow_maps.proofs.Seating.{known_same}
 use Rattle.flow_maps.proofs.Serving.{run_is}
@@ -115,11 +115,8 @@ module _ (u : RunBefore) (b c : Book) (h : WasBefore u b c) where
 ---- The first book
 
 no_run : {A : Type 0} (xs : List A) (n : ℕ) → xs ≡ [] → None ≡ nth xs n
-no_run xs n none = subst (λ (ys : List _). None ≡ nth ys n) (sym none) (by (nat_eq n 0))
-  where
-    by : (v : Bool) → None ≡ (if v then None else None)
-    by true = refl
-    by false = refl
+no_run [] n none = elim (cases_Bool (nat_eq n 0)) [ inl zeroth ↦ rw zeroth refl | inr other ↦ rw other refl ]
+no_run (x ∷ xs) n none = absurd (let e = none in cc)
 
 pub no_runs : (m : KnownRuns) (b : Book) → b.runs ≡ [] → m.count ≡ 0 → IsIndex m.requests (λ n. None) → KnowsOpen m.seats (λ n. None) → KnowsRuns m b
 no_runs m b none count requests seats = record {
