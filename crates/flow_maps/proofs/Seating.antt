@@ -1,6 +1,6 @@
 -- What is known of the open runs where a run comes, goes, or is another.
 use Rattle.std.specs.Prelude.{◌≡◌, ◌+◌, ◌++◌, ◌∷◌, if◌then◌else◌}
-use Rattle.flow_maps.proofs.Names.{[], ℕ, Bool, true, false, cond, List, Option, Some, None, is_some, length, filter, option_map, refl, sym, ap, subst, true≢false, ◌∙◌, IfSome, BTreeMap, get, keys, nat_cmp, IsStrictlySortedBy, length-keys_of, is_some-lookup, Bytes, OpenActivity, Run, Timer, Book, nth, open_timers, state_of, is_open, Head, is_open_run, tasks_at, tasks_of, HasSlots, date_of_task, date_of_timer, IsIndex, key_if, name_of, open_key, is_run, replaced, IsSeat, IsSeated, KnowsOpen, seat_tasks, of_run, timers_of, OpenSeats, Seat}
+use Rattle.flow_maps.proofs.Names.{[], ℕ, Bool, true, false, cond, List, Option, Some, None, is_some, length, filter, refl, sym, ap, subst, true≢false, ◌∙◌, IfSome, BTreeMap, get, keys, nat_cmp, IsStrictlySortedBy, length-keys_of, is_some-lookup, Bytes, OpenActivity, Run, Timer, Book, nth, open_timers, state_of, is_open, Head, is_open_run, tasks_at, tasks_of, HasSlots, date_of_task, date_of_timer, IsIndex, key_if, name_of, open_key, is_run, replaced, IsSeat, IsSeated, KnowsOpen, seat_tasks, of_run, timers_of, OpenSeats, Seat}
 use Rattle.flow_maps.proofs.Listing.{in_open, open_many}
 use Rattle.flow_maps.proofs.Planning.{none_is, of_at, same_view, some_is}
 use Rattle.flow_maps.proofs.Slots.{run_is}
@@ -127,9 +127,3 @@ pub taken_clear : (m m' : OpenSeats) (run : ℕ) (o : Option Seat) (rs : ℕ →
     → IfSome o (λ s. (fs : ℕ → Option Run) → KnowsOpen m fs → (r : Run) × (fs run ≡ Some r) × IsSeated (Some s) (Some r) × KnowsOpen m' (replaced run None fs)) → KnowsOpen m rs → KnowsOpen m' (replaced run None rs)
 taken_clear m m' run None rs some is h = absurd (true≢false (sym some))
 taken_clear m m' run (Some s) rs some is h = (is rs h).3
-
--- the seat that is found
-pub seat_found : {B : Type 0} (m : OpenSeats) (run : ℕ) (o : Option B) (now : B → Seat) → option_map now o ≡ get nat_cmp m.by_run run
-    → IfSome o (λ s. (rs : ℕ → Option Run) → KnowsOpen m rs → (r : Run) × (rs run ≡ Some r) × IsSeated (Some (now s)) (Some r))
-seat_found m run None now is = tt
-seat_found m run (Some s) now is = λ rs h. seat_there (get nat_cmp m.by_run run) (rs run) (now s) (sym is) (h.by_run run)

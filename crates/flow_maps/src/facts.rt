@@ -56,7 +56,8 @@ impl KnownRuns {
         if !self.requests.put_if(run, request) {
             return false;
         }
-        self.count = run.get();
+        let count = run.get();
+        self.count = count;
         self.seats.put(run, seat)
     }
 
@@ -68,13 +69,13 @@ impl KnownRuns {
         let Some(run) = RunId::new(self.count) else {
             return false;
         };
-        let Some(count) = count_before(self.count) else {
+        let Some(before) = count_before(self.count) else {
             return false;
         };
         if !self.requests.remove_if(request) {
             return false;
         }
-        self.count = count;
+        self.count = before;
         self.seats.clear(run)
     }
 }

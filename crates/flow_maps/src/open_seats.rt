@@ -111,7 +111,10 @@ impl OpenSeats {
         ensures { IfSome result (λ s. (rs : ℕ → Option ARun) → KnowsOpen self.now rs
             → (r : ARun) × (rs run ≡ Some r) × IsSeated (Some s.now) (Some r)) }
     {
-        self.by_run.get(&run.get())
+        match self.by_run.get(&run.get()) {
+            Some(seat) => Some(seat),
+            None => None,
+        }
     }
 
     /// How many runs are open.
