@@ -23,10 +23,10 @@ pub record WasBefore (u : RunBefore) (b c : Book) : Type 0 where
   pub signals : IsUntaken u.signal u.seat.head.flow b c
 
 -- The second book has one run more, which this request started, or none.
-pub record WasBegun (request : Option Bytes) (b c : Book) : Type 0 where
+pub record WasBegun (asked : Option Bytes) (b c : Book) : Type 0 where
   pub now : Run
   pub made : c ≡ record b { runs = b.runs ++ now ∷ [] }
-  pub request : now.request ≡ request
+  pub request : now.request ≡ asked
   pub signals : (f q : Bytes) → signalled b f q ≡ signalled c f q
 
 -- This takes a change back that made the second book of the first.
