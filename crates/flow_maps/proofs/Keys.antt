@@ -16,11 +16,11 @@ only_one (Some m) q f a b h one two = h.1 a one ∙ sym (h.1 b two)
 module _ (q : Bytes) (f : ℕ → Option Bytes) (run : ℕ) (x : Option Bytes) where
   -- another name comes or goes
   other_at : (o : Option ℕ) → is_key q x ≡ false → is_key q (f run) ≡ false → IsFound o q f → IsFound o q (replaced run x f)
-  other_at None comes goes h n = by (is_run run n)
+  other_at None comes goes h = λ n. by n (is_run run n)
     where
-      by : (v : Bool) → is_key q (cond v x (f n)) ≡ false
-      by true = comes
-      by false = h n
+      by : (n : ℕ) (v : Bool) → is_key q (cond v x (f n)) ≡ false
+      by n true = comes
+      by n false = h n
   other_at (Some m) comes goes h = (here (is_run run m) refl, λ n. there n (is_run run n))
     where
       here : (v : Bool) → is_run run m ≡ v → is_key q (cond v x (f m)) ≡ true

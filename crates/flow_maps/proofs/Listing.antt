@@ -1,6 +1,7 @@
 -- What may be attempted by a moment, listed by the runs that have something by then.
 use Rattle.std.specs.Prelude.{◌≡◌, ◌≤◌, ◌<◌, ◌+◌, ◌-◌, ◌||◌, ◌∷◌, ◌++◌, ◌⊎◌, ◌&&◌}
-use Rattle.flow_maps.proofs.Names.{ℕ, zero, suc, Bool, true, false, cond, List, [], filter, length, slice_get, refl, sym, ap, ◌∙◌, inl, inr, true≢false, arith, subst, Option, Some, None, nat_le, AllByRecursion, list_any, IsStrictlySortedBy, nat_cmp, is_gt, is_le, ordering_then, BTreeSet, contains, range_contains, nat_cmp_is, Excluded, Included, Less, Equal, Greater, cases_Bool, leb-true, leb-false, ranked, Run, OpenActivity, Book, nth, Has, nth_at, is_open_run, tasks_of, tasks_at, Slot, slot_cmp, is_slot, slot, date_of_task, HasSlots, part_within, is_run, Waiting, is_by, is_within, ready_of, ready_within, waiting, waiting_in, waiting_from, of_run}
+use Rattle.flow_maps.proofs.Names.{ℕ, zero, suc, Bool, true, false, cond, List, [], filter, length, slice_get, refl, sym, ap, ◌∙◌, inl, inr, true≢false, arith, subst, Option, Some, None, nat_le, AllByRecursion, list_any, nat_cmp, is_gt, is_le, ordering_then, BTreeSet, contains, range_contains, nat_cmp_is, Excluded, Included, Less, Equal, Greater, cases_Bool, leb-true, leb-false, ranked, Run, OpenActivity, Book, nth, Has, nth_at, is_open_run, tasks_of, tasks_at, Slot, slot_cmp, is_slot, slot, date_of_task, HasSlots, part_within, is_run, Waiting, is_by, is_within, ready_of, ready_within, waiting, waiting_in, waiting_from, of_run}
+use Rattle.std.specs.List.Sorted.{IsStrictlySortedBy}
 use Rattle.flow_maps.proofs.Slots.{run_is, run_itself, not_true, slot_is, one_has, later}
 
 -- each number is above those before it, and none is below the first one
