@@ -1,16 +1,6 @@
 -- What is gathered from one run more.
-use Rattle.std.proofs.Common.{◌≡◌, ◌+◌, ◌++◌, ◌∷◌, ℕ, suc, Bool, true, false, List, [], Option, Some, None, filter, length, option_map, refl, sym, ap, ◌∙◌, append_assoc, append-nil, length-append, inl, inr, arith}
-use Rattle.std.specs.Prelude.{nat_lt, if◌then◌else◌}
-use Rattle.std.proofs.lemmas.Bool.{cases_Bool, ltb-true, ltb-false}
-use Rattle.flow_base.specs.declared.book.Run.{Run}
-use Rattle.flow_model.specs.Book.{is_run_of, signal_in, found_in, signalled_from, least_of, least_from}
-use Rattle.flow_model.specs.Open.{timers_left}
-use Rattle.flow_maps.specs.Agenda.{is_open_run}
-use Rattle.flow_maps.specs.Gathering.{listed_with, outlook_from}
-use Rattle.flow_maps.specs.Outlooks.{Waiting, is_within, moment_of, sooner, soonest, waiting_in, waiting_from, with_next, with_ready}
-use Rattle.flow_maps.specs.declared.gathering.WaitingList.{WaitingList}
-use Rattle.flow_maps.specs.Signals.{or_later}
-use Rattle.flow_maps.specs.declared.outlook.BookWaits.{BookWaits}
+use Rattle.std.specs.Prelude.{◌≡◌, ◌+◌, ◌++◌, ◌∷◌, if◌then◌else◌}
+use Rattle.flow_maps.proofs.Names.{ℕ, suc, Bool, true, false, List, [], Option, Some, None, filter, length, option_map, refl, sym, ap, ◌∙◌, append_assoc, append-nil, length-append, inl, inr, arith, nat_lt, cases_Bool, ltb-true, ltb-false, Run, is_run_of, signal_in, found_in, signalled_from, least_of, least_from, timers_left, is_open_run, listed_with, outlook_from, Waiting, is_within, moment_of, sooner, soonest, waiting_in, waiting_from, with_next, with_ready, WaitingList, or_later, BookWaits}
 use Rattle.flow_maps.proofs.Listing.{filter_on}
 use Rattle.flow_maps.proofs.Sooner.{again, passed}
 

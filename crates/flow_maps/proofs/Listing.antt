@@ -1,27 +1,7 @@
 -- What may be attempted by a moment, listed by the runs that have something by then.
-use Rattle.std.proofs.Common.{◌≡◌, ◌≤◌, ◌<◌, ◌+◌, ◌-◌, ◌||◌, ℕ, zero, suc, Bool, true, false, cond, List, [], ◌∷◌, ◌++◌, filter, slice_get, refl, sym, ap, ◌∙◌, inl, inr, true≢false, arith}
-use Rattle.std.specs.Prelude.{◌⊎◌, ◌&&◌, nat_le}
-use Rattle.std.specs.List.{AllByRecursion, list_any}
+use Rattle.std.specs.Prelude.{◌≡◌, ◌≤◌, ◌<◌, ◌+◌, ◌-◌, ◌||◌, ◌∷◌, ◌++◌, ◌⊎◌, ◌&&◌}
+use Rattle.flow_maps.proofs.Names.{ℕ, zero, suc, Bool, true, false, cond, List, [], filter, length, slice_get, refl, sym, ap, ◌∙◌, inl, inr, true≢false, arith, subst, Option, Some, None, nat_le, AllByRecursion, list_any, nat_cmp, is_gt, is_le, ordering_then, BTreeSet, contains, range_contains, nat_cmp_is, Excluded, Included, Less, Equal, Greater, cases_Bool, leb-true, leb-false, ranked, Run, OpenActivity, Book, nth, Has, nth_at, is_open_run, tasks_of, tasks_at, Slot, slot_cmp, is_slot, slot, date_of_task, HasSlots, part_within, is_run, Waiting, is_by, is_within, ready_of, ready_within, waiting, waiting_in, waiting_from, of_run}
 use Rattle.std.specs.List.Sorted.{IsStrictlySortedBy}
-use Rattle.std.specs.Ordering.{nat_cmp, is_gt, is_le, ordering_then}
-use Rattle.std.specs.BTreeSet.{contains}
-use Rattle.std.specs.BTreeMap.Range.{range_contains}
-use Rattle.std.specs.Cmp.{nat_cmp_is}
-use Rattle.std.specs.declared.ops.Bound.TheVariants.{Excluded, Included}
-use Rattle.std.proofs.Common.{Less, Equal, Greater}
-use Rattle.std.proofs.lemmas.Bool.{cases_Bool, leb-true, leb-false}
-use Rattle.std.proofs.lemmas.Cmp.{ranked}
-use Rattle.flow_base.specs.declared.book.Run.{Run}
-use Rattle.flow_base.specs.declared.book.OpenActivity.{OpenActivity}
-use Rattle.flow_model.specs.Book.{Book}
-use Rattle.flow_model.proofs.DueFirst.{Has}
-use Rattle.flow_model.proofs.Logs.{nth_at}
-use Rattle.flow_maps.specs.declared.calendar.Calendar.{Calendar}
-use Rattle.flow_maps.specs.Agenda.{tasks_of, tasks_at}
-use Rattle.flow_maps.specs.Calendars.{Slot, slot_cmp, is_slot, slot, date_of_task, IsCalendar, part_within}
-use Rattle.flow_maps.specs.OfRuns.{is_run}
-use Rattle.flow_maps.specs.Outlooks.{Waiting, is_by, is_within, ready_of, ready_within, waiting, waiting_in, waiting_from}
-use Rattle.flow_maps.specs.Timers.{of_run}
 use Rattle.flow_maps.proofs.Slots.{run_is, run_itself, not_true, slot_is, one_has, later}
 
 -- each number is above those before it, and none is below the first one
@@ -44,6 +24,9 @@ rises_from n m (k ∷ ms) less rises = (omega (arith, less, rises), rises.1)
 -- a number that isn't the first one is among the others
 others : (n m : ℕ) (ms : List ℕ) → m < n → among ms n ≡ false → among (m ∷ ms) n ≡ false
 others n m ms less none = ap (λ v. v || among ms n) (not_true (is_run n m) (λ same. let is = run_is n m same in absurd (omega (arith, less, is)))) ∙ none
+
+others_among : (n m : ℕ) (ms : List ℕ) → m < n → among (m ∷ ms) n ≡ among ms n
+others_among n m ms less = ap (λ v. v || among ms n) (not_true (is_run n m) (λ same. let is = run_is n m same in absurd (omega (arith, less, is))))
 
 pub filter_on : (p : Waiting → Bool) (xs ys : List Waiting) → filter p (xs ++ ys) ≡ filter p xs ++ filter p ys
 filter_on p [] ys = refl
@@ -129,6 +112,33 @@ module _ (p : Waiting → Bool) (g : ℕ → List OpenActivity) where
             ∙ from_one ms (rises_from 1 (suc m) ms (omega (arith, zeroth)) rises.1) (rest_on 1 m ms (omega (arith, zeroth)) (rest_from 0 m (m ∷ ms) (omega arith) rest))
       ]
 
+---- How many there are
+
+abbrev pub in_open : Option Run → Bool
+in_open None = false
+in_open (Some r) = is_open_run r
+
+-- numbers that rise, and are those of the open runs from a number on, are as many as these
+many_open : (rs : List Run) (n : ℕ) (ms : List ℕ) → Rises n ms → ((k : ℕ) → among ms (n + k) ≡ in_open (slice_get rs k)) → length ms ≡ length (filter is_open_run rs)
+many_open [] n [] rises are = refl
+many_open [] n (m ∷ ms) rises are =
+    let at : n + (m - n) ≡ m = omega (arith, rises) in
+    absurd (true≢false (sym (subst (λ k. among (m ∷ ms) k ≡ true) (sym at) (ap (λ v. v || among ms m) (run_itself m))) ∙ are (m - n)))
+many_open (r ∷ rs) n [] rises are = many_open rs (n + 1) [] tt (λ k. are (suc k)) ∙ ap (λ v. length (cond v (r ∷ filter is_open_run rs) (filter is_open_run rs))) (are zero)
+many_open (r ∷ rs) n (m ∷ ms) rises are = elim (cases_Bool (nat_le m n)) [
+  | inl low ↦
+      let below = leb-true m n low in
+      let same : m ≡ n = omega (arith, below, rises) in
+      let here : is_open_run r ≡ true = sym (are zero) ∙ ap (among (m ∷ ms)) (let e : n + zero ≡ m = omega (arith, same) in e) ∙ ap (λ v. v || among ms m) (run_itself m) in
+      let rest = many_open rs (n + 1) ms (rises_from (n + 1) (suc m) ms (omega (arith, same)) rises.1) (λ k. sym (others_among (n + 1 + k) m ms (omega (arith, same))) ∙ ap (among (m ∷ ms)) (let e : n + 1 + k ≡ n + suc k = omega arith in e) ∙ are (suc k)) in
+      ap suc rest ∙ ap (λ v. length (cond v (r ∷ filter is_open_run rs) (filter is_open_run rs))) (sym here)
+  | inr high ↦
+      let less = leb-false m n high in
+      let none : is_open_run r ≡ false = sym (are zero) ∙ ap (among (m ∷ ms)) (let e : n + zero ≡ n = omega arith in e) ∙ none_below n m (m ∷ ms) (omega arith, rises.1) less in
+      many_open rs (n + 1) (m ∷ ms) (omega (arith, less), rises.1) (λ k. ap (among (m ∷ ms)) (let e : n + 1 + k ≡ n + suc k = omega arith in e) ∙ are (suc k))
+      ∙ ap (λ v. length (cond v (r ∷ filter is_open_run rs) (filter is_open_run rs))) (sym none)
+]
+
 ---- Of a set
 
 above_all : (n : ℕ) (ks : List ℕ) → AllByRecursion (λ k. nat_cmp n k ≡ Less) ks → AllByRecursion (λ k. suc n ≤ k) ks
@@ -205,24 +215,40 @@ both_are true w h = (refl, h)
 both_are false w h = absurd (true≢false (sym h))
 
 -- A run that no slot between the moments is of has nothing then.
-none_by_slots : (c : Calendar OpenActivity) (g : ℕ → List OpenActivity) (first since at n : ℕ) → first ≤ since → IsCalendar date_of_task c g → list_any (λ (s : Slot). is_run s.1 n) (part_within first at c.slots.keys) ≡ false
+none_by_slots : (s : BTreeSet Slot) (g : ℕ → List OpenActivity) (first since at n : ℕ) → first ≤ since → HasSlots date_of_task s g → list_any (λ (q : Slot). is_run q.1 n) (part_within first at s.keys) ≡ false
     → filter (is_within since at) (waiting_in n (g n)) ≡ []
-none_by_slots c g first since at n low h none = none_own (is_within since at) n (g n) never
+none_by_slots s g first since at n low h none = none_own (is_within since at) n (g n) never
   where
     never : (t : OpenActivity) → Has (g n) t → is_within since at (n, t) ≡ false
     never t has = not_true (is_within since at (n, t)) (λ is.
         let q : Slot = slot date_of_task n t in
         let both = both_are (nat_le since t.ready) (is_by at (n, t)) is in
         let late = leb-true since t.ready both.0 in
-        let there : contains slot_cmp c.slots q ≡ true = h.slots q ∙ one_has date_of_task n (g n) t has in
-        true≢false (sym (in_part c.slots.keys (range_contains slot_cmp (Included (first, 0, 0)) (Excluded (at + 1, 0, 0))) q there (in_time first at q (omega (arith, low, late)) (leb-true t.ready at both.1))) ∙ none))
+        let there : contains slot_cmp s q ≡ true = h q ∙ one_has date_of_task n (g n) t has in
+        true≢false (sym (in_part s.keys (range_contains slot_cmp (Included (first, 0, 0)) (Excluded (at + 1, 0, 0))) q there (in_time first at q (omega (arith, low, late)) (leb-true t.ready at both.1))) ∙ none))
 
 -- what is listed of the runs that slots between the moments are of
-pub listed_by : (c : Calendar OpenActivity) (b : Book) (first since at : ℕ) (g : ℕ → List OpenActivity) (ms : List ℕ) → first ≤ since → IsCalendar date_of_task c (tasks_at b) → ((n : ℕ) → g n ≡ tasks_at b n) → IsStrictlySortedBy nat_cmp ms
-    → ((n : ℕ) → list_any (is_run n) ms ≡ list_any (λ (s : Slot). is_run s.1 n) (part_within first at c.slots.keys)) → ready_of (is_within since at) g ms ≡ ready_within since at b
-listed_by c b first since at g ms low h are sorted runs =
+pub listed_by : (s : BTreeSet Slot) (b : Book) (first since at : ℕ) (g : ℕ → List OpenActivity) (ms : List ℕ) → first ≤ since → HasSlots date_of_task s (tasks_at b) → ((n : ℕ) → g n ≡ tasks_at b n) → IsStrictlySortedBy nat_cmp ms
+    → ((n : ℕ) → list_any (is_run n) ms ≡ list_any (λ (q : Slot). is_run q.1 n) (part_within first at s.keys)) → ready_of (is_within since at) g ms ≡ ready_within since at b
+listed_by s b first since at g ms low h are sorted runs =
     all_listed (is_within since at) g b ms (sorted_rise 0 ms (none_lower ms) sorted) are
-    (λ n from none. ap (λ ts. filter (is_within since at) (waiting_in n ts)) (are n) ∙ none_by_slots c (tasks_at b) first since at n low h (sym (runs n) ∙ none))
+    (λ n from none. ap (λ ts. filter (is_within since at) (waiting_in n ts)) (are n) ∙ none_by_slots s (tasks_at b) first since at n low h (sym (runs n) ∙ none))
+
+-- how many runs are open, by the numbers of those that are, in order
+pub open_many : (rs : List Run) (ms : List ℕ) → IsStrictlySortedBy nat_cmp ms → ((n : ℕ) → among ms n ≡ in_open (nth rs n)) → length ms ≡ length (filter is_open_run rs)
+open_many rs ms sorted are = go ms (sorted_rise 0 ms (none_lower ms) sorted) are
+  where
+    from_one : (ms : List ℕ) → Rises 1 ms → ((n : ℕ) → among ms n ≡ in_open (nth rs n)) → length ms ≡ length (filter is_open_run rs)
+    from_one ms rises are = many_open rs 1 ms rises (λ k. are (1 + k) ∙ ap in_open (nth_at rs (1 + k) k (omega arith)))
+
+    go : (ms : List ℕ) → Rises 0 ms → ((n : ℕ) → among ms n ≡ in_open (nth rs n)) → length ms ≡ length (filter is_open_run rs)
+    go [] rises are = from_one [] tt are
+    go (m ∷ ms) rises are = elim (cases_Bool (nat_le 1 m)) [
+      | inl high ↦ from_one (m ∷ ms) (leb-true 1 m high, rises.1) are
+      | inr low ↦
+          let zeroth : 0 ≡ m = let less = leb-false 1 m low in omega (arith, less) in
+          absurd (true≢false (sym (subst (λ k. among (m ∷ ms) k ≡ true) (sym zeroth) (ap (λ v. v || among ms m) (run_itself m))) ∙ are 0))
+    ]
 
 -- what is listed where nothing is left
 pub end_of : (p : Waiting → Bool) (g : ℕ → List OpenActivity) (ws : List Waiting) (ms : List ℕ) (all : List Waiting) → ms ≡ [] → ws ++ ready_of p g ms ≡ all → ws ≡ all

@@ -1,14 +1,6 @@
 -- Names in maps: what a change leaves, and that two names as one are these two.
-use Rattle.std.proofs.Common.{◌≡◌, ℕ, Bool, true, false, cond, ◌∷◌, ◌++◌, length, take, drop, Option, bytes_eq, refl, sym, ap, ◌∙◌}
-use Rattle.std.specs.BTreeMap.{BTreeMap, UpdatesBy}
-use Rattle.std.specs.Cmp.Lexicographic.{slice_cmp}
-use Rattle.std.specs.Map.{update}
-use Rattle.std.specs.Ordering.{nat_cmp}
-use Rattle.std.proofs.Math.Seq.{take-append_seam, drop-append_seam}
-use Rattle.std.proofs.lemmas.Map.Text.{is_eq-slice_cmp}
-use Rattle.std.proofs.lemmas.Slice.Eq.{bytes_eq-Decides}
-use Rattle.flow_base.specs.Syntax.{Bytes}
-use Rattle.flow_maps.specs.Names.{at_name, is_name, both}
+use Rattle.std.specs.Prelude.{◌≡◌, ◌∷◌, ◌++◌}
+use Rattle.flow_maps.proofs.Names.{ℕ, Bool, true, false, cond, length, take, drop, Option, bytes_eq, refl, sym, ap, ◌∙◌, BTreeMap, UpdatesBy, slice_cmp, update, nat_cmp, take-append_seam, drop-append_seam, is_eq-slice_cmp, bytes_eq-Decides, Bytes, at_name, is_name, both}
 
 -- what is had by names, once it is w by one of them
 pub by_name : {W : Type 0} (f g : Bytes → W) (k : Bytes) (w : W) → ((q : Bytes) → g q ≡ cond (is_name k q) w (f q)) → (q : Bytes) → g q ≡ cond (bytes_eq k q) w (f q)

@@ -1,35 +1,10 @@
 -- What a change of a book makes of the places where signals are recorded.
-use Rattle.std.proofs.Common.{◌≡◌, ◌-◌, ◌+◌, ℕ, zero, suc, Bool, true, false, if◌then◌else◌, cond, List, [], ◌∷◌, ◌++◌, length, take, get_or, ◌<◌, Option, Some, None, is_some, slice_get, slice_set, bytes_eq, refl, sym, ap, subst, ◌∙◌, arith}
-use Rattle.std.specs.BTreeMap.{BTreeMap}
-use Rattle.std.specs.Prelude.{MatchOption}
-use Rattle.std.specs.Map.{update}
-use Rattle.std.proofs.lemmas.List.{take_more}
-use Rattle.std.proofs.lemmas.Slice.Eq.{bytes_eq-Decides}
-use Rattle.flow_base.specs.Syntax.{Bytes}
-use Rattle.flow_base.specs.declared.event.Cmd.{Cmd}
-use Rattle.flow_base.specs.declared.event.Event.{Event}
+use Rattle.std.specs.Prelude.{◌≡◌, ◌-◌, ◌+◌, if◌then◌else◌, ◌∷◌, ◌++◌, ◌<◌}
+use Rattle.flow_maps.proofs.Names.{ℕ, zero, suc, Bool, true, false, cond, List, [], length, take, get_or, Option, Some, None, is_some, slice_get, slice_set, bytes_eq, refl, sym, ap, subst, ◌∙◌, arith, BTreeMap, update, take_more, bytes_eq-Decides, Bytes, Cmd, Event, What, Came, Asked, AddRun, AddTurn, Run, Turn, traces, turn_events, Book, nth, changed, with_run, with_turn, unbegun_run, signal_in, is_signal_of, is_run_of, found_in, signalled, signalled_from, nth_at, at_name, is_name, both, SignalEvents, at_request, asked_by, signal_of, or_later, with_history, AreOf, IsTaken, IsUntaken}
 use Rattle.flow_base.specs.declared.event.Input.TheVariants as input
-use Rattle.flow_base.specs.declared.event.What.{What}
-use Rattle.flow_base.specs.declared.event.What.TheVariants.{Came, Asked}
-use Rattle.flow_base.specs.declared.book.Change.TheVariants.{AddRun, AddTurn}
-use Rattle.flow_base.specs.declared.book.Run.{Run}
-use Rattle.flow_base.specs.declared.book.Turn.{Turn}
-use Rattle.flow_model.specs.Turned.{traces, turn_events}
-use Rattle.flow_model.specs.Book.{Book, nth, changed, with_run, with_turn, unbegun_run, signal_in, is_signal_of, is_run_of, found_in, signalled, signalled_from}
-use Rattle.flow_model.proofs.Logs.{nth_at}
-use Rattle.flow_maps.specs.Names.{at_name, is_name, both}
-use Rattle.flow_maps.specs.declared.signals.SignalEvents.{SignalEvents}
-use Rattle.flow_maps.specs.declared.signals.Signals.{Signals}
-use Rattle.flow_maps.specs.Signals.{at_request, asked_by, signal_of, or_later, with_history, AreOf, KnowsSignals, IsTaken, IsUntaken}
-use Rattle.flow_maps.specs.declared.signals.SignalTaken.TheVariants.{First}
 use Rattle.flow_maps.proofs.Naming.{by_name, both_own, both_flow, both_request}
+use Rattle.flow_maps.proofs.Planning.{none_is, some_is}
 use Rattle.flow_maps.proofs.Serving.{none_is_there, run_is}
-
-none_is : {A : Type 0} (x : A) → None ≡ Some x → ⊥
-none_is x h = let same = h in cc
-
-some_is : {A : Type 0} (x y : A) → Some x ≡ Some y → x ≡ y
-some_is x y h = let same = h in cc
 
 pub is_nothing : {A : Type 0} (o : Option A) → is_some o ≡ false → o ≡ None
 is_nothing None e = refl
@@ -230,17 +205,9 @@ signal_taken b run count t r flow request at own long asks =
 
 ---- What is known
 
-known_as : (o : Option SignalEvents) (b c : Book) → ((f q : Bytes) → signalled c f q ≡ signalled b f q) → MatchOption o (Unit {0}) (λ m. AreOf m b) → MatchOption o (Unit {0}) (λ m. AreOf m c)
-known_as None b c same h = tt
-known_as (Some m) b c same h = λ f q. h f q ∙ sym (same f q)
-
 -- all stays known
-pub stays_known : (s : Signals) (b c : Book) → ((f q : Bytes) → signalled c f q ≡ signalled b f q) → KnowsSignals s b → KnowsSignals s c
-stays_known s b c same h = known_as s.events b c same h
-
--- what is known, where it is
-pub known_events : (s : Signals) (m : SignalEvents) (b : Book) → s.events ≡ Some m → KnowsSignals s b → AreOf m b
-known_events s m b is h = subst (λ o. MatchOption o (Unit {0}) (λ x. AreOf x b)) is h
+pub stays_known : (m : SignalEvents) (b c : Book) → ((f q : Bytes) → signalled c f q ≡ signalled b f q) → AreOf m b → AreOf m c
+stays_known m b c same h = λ f q. h f q ∙ sym (same f q)
 
 -- nothing is recorded
 pub none_recorded : (m : SignalEvents) (b : Book) → ((f q : Bytes) → at_request m f q ≡ None) → b.runs ≡ [] → AreOf m b
@@ -249,9 +216,6 @@ none_recorded m b empty none = λ f q. empty f q ∙ sym (ap (signalled_from f q
 -- a turn with which no signal came
 pub quiet_turn : (b : Book) (run : ℕ) (t : Turn) (r : Run) → nth b.runs run ≡ Some r → asked_by t.input ≡ None → (f q : Bytes) → signalled (changed b (AddTurn run t)) f q ≡ signalled b f q
 quiet_turn b run t r at none f q = turn_stays b (changed b (AddTurn run t)) run t r f q (has_turn b run t r at) (quiet_says f q t r (named_none q (asked_by t.input) none))
-
-pub turn_quiet : (s : Signals) (b : Book) (run : ℕ) (t : Turn) (r : Run) → nth b.runs run ≡ Some r → asked_by t.input ≡ None → KnowsSignals s b → KnowsSignals s (changed b (AddTurn run t))
-turn_quiet s b run t r at none = stays_known s b (changed b (AddTurn run t)) (quiet_turn b run t r at none)
 
 -- a change of one run that leaves its flow and its history
 quiet_set : (b : Book) (n : ℕ) (f : Run → Run) → ((fl q : Bytes) (r : Run) → said fl q (f r) ≡ said fl q r) → (fl q : Bytes) → signalled (with_run b n f) fl q ≡ signalled b fl q
@@ -267,9 +231,6 @@ quiet_set b n f same fl q = go (nth b.runs n) refl
     go None is = ap (λ (x : Book). signalled x fl q) (sym (none_is_there b n f is))
     go (Some r) is = ap (λ (x : Book). signalled x fl q) (sym (run_is b n f r is)) ∙ there n r is fl q
 
-pub set_quiet : (s : Signals) (b : Book) (n : ℕ) (f : Run → Run) → ((fl q : Bytes) (r : Run) → said fl q (f r) ≡ said fl q r) → KnowsSignals s b → KnowsSignals s (with_run b n f)
-set_quiet s b n f same h = stays_known s b (with_run b n f) (quiet_set b n f same) h
-
 -- and so one that leaves what it is told by
 pub quiet_kept : (b : Book) (n : ℕ) (f : Run → Run) → ((r : Run) → (f r).flow ≡ r.flow) → ((r : Run) → (f r).history ≡ r.history) → (fl q : Bytes) → signalled (with_run b n f) fl q ≡ signalled b fl q
 quiet_kept b n f flow history = quiet_set b n f (λ fl q r. ap (λ v. if bytes_eq v fl then signal_in q (f r).history else None) (flow r) ∙ ap (λ h. if bytes_eq r.flow fl then signal_in q h else None) (history r))
@@ -284,9 +245,6 @@ first_says flow request text t f q = go (bytes_eq flow f)
 -- a run that begins with none
 pub quiet_run : (b : Book) (flow : Bytes) (request : Option Bytes) (text : ℕ) (t : Turn) → asked_by t.input ≡ None → (f q : Bytes) → signalled (changed b (AddRun flow request text t)) f q ≡ signalled b f q
 quiet_run b flow request text t none f q = behind f q 1 b.runs (with_turn t (unbegun_run flow request text)) (quiet_says f q t (unbegun_run flow request text) (named_none q (asked_by t.input) none) ∙ first_says flow request text t f q)
-
-pub run_quiet : (s : Signals) (b : Book) (flow : Bytes) (request : Option Bytes) (text : ℕ) (t : Turn) → asked_by t.input ≡ None → KnowsSignals s b → KnowsSignals s (changed b (AddRun flow request text t))
-run_quiet s b flow request text t none = stays_known s b (changed b (AddRun flow request text t)) (quiet_run b flow request text t none)
 
 -- one more run, with those that it has taken
 pub append_known : (m m' : SignalEvents) (b : Book) (r : Run) (flow : Bytes) (run : ℕ) (h : List Event) → run ≡ length b.runs + 1 → r.flow ≡ flow → r.history ≡ h
@@ -324,7 +282,7 @@ taken_known m m' b c flow request run count taken free more are = λ f q. more f
 ---- What a run didn't take
 
 -- the first signal of a request, which the run has taken
-pub first_untaken : (b c : Book) (flow request : Bytes) (run count : ℕ) → IsTaken b c flow run count request → signalled b flow request ≡ None → IsUntaken (First request) flow b c
+pub first_untaken : (b c : Book) (flow request : Bytes) (run count : ℕ) → IsTaken b c flow run count request → signalled b flow request ≡ None → IsUntaken (Some request) flow b c
 first_untaken b c flow request run count taken free = λ f q. go f q (bytes_eq flow f) refl
   where
     other : (f q : Bytes) → bytes_eq (both flow request) (both f q) ≡ false → signalled c f q ≡ signalled b f q → signalled b f q ≡ (if bytes_eq (both flow request) (both f q) then None else signalled c f q)
@@ -344,7 +302,7 @@ first_untaken b c flow request run count taken free = λ f q. go f q (bytes_eq f
     go f q false is = other f q (both_flow flow f request q is) (taken.others f is q)
 
 pub untaken_known : (m m' : SignalEvents) (b c : Book) (flow request : Bytes) → ((f q : Bytes) → at_request m' f q ≡ (if bytes_eq (both flow request) (both f q) then None else at_request m f q))
-    → IsUntaken (First request) flow b c → AreOf m c → AreOf m' b
+    → IsUntaken (Some request) flow b c → AreOf m c → AreOf m' b
 untaken_known m m' b c flow request gone untaken are = λ f q. gone f q ∙ ap (λ o. if bytes_eq (both flow request) (both f q) then None else o) (are f q) ∙ sym (untaken f q)
 
 -- its name is taken out

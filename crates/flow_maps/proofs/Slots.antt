@@ -1,23 +1,6 @@
 -- What becomes of timers in order of their dues, and that the first of them is the one that is due first.
-use Rattle.std.proofs.Common.{◌≡◌, ◌≢◌, ℕ, zero, suc, ◌≤◌, ◌<◌, List, [], ◌∷◌, length, Bool, true, false, cond, not, ◌&&◌, ◌||◌, Option, Some, None, slice_get, refl, sym, ap, ◌∙◌, subst, inl, inr, true≢false, arith}
-use Rattle.std.specs.Prelude.{◌⊎◌}
-use Rattle.std.specs.List.{list_any}
-use Rattle.std.specs.Ordering.{nat_cmp, is_eq, is_gt, ordering_then}
-use Rattle.std.proofs.Common.{Ordering, Less, Equal, Greater}
-use Rattle.std.specs.BTreeSet.{BTreeSet, contains, btree_set_len}
-use Rattle.std.proofs.lemmas.Cmp.{ranked, nat_cmp_total, tied_itself}
-use Rattle.std.specs.Cmp.{nat_cmp_is}
-use Rattle.flow_base.specs.declared.book.Due.{Due}
-use Rattle.flow_base.specs.declared.book.Run.{Run}
-use Rattle.flow_base.specs.declared.book.Timer.{Timer}
-use Rattle.flow_model.specs.Book.{Book, nth, least_due}
-use Rattle.flow_model.specs.Open.{timers_left}
-use Rattle.flow_model.proofs.Logs.{nth_at}
-use Rattle.flow_maps.specs.declared.calendar.Calendar.{Calendar}
-use Rattle.flow_maps.specs.Calendars.{Slot, slot_cmp, is_slot, slot, due_of, date_of_timer, has_slot, IsCalendar}
-use Rattle.flow_maps.specs.OfRuns.{is_run}
-use Rattle.flow_maps.specs.Timers.{of_run, timers_of, timers_at}
-use Rattle.flow_model.proofs.DueFirst.{Before, IsLeast, Has, InRuns, the_least, runs_least}
+use Rattle.std.specs.Prelude.{◌≡◌, ◌≢◌, ◌≤◌, ◌<◌, ◌∷◌, ◌&&◌, ◌||◌, ◌⊎◌}
+use Rattle.flow_maps.proofs.Names.{ℕ, zero, suc, List, [], length, Bool, true, false, cond, not, Option, Some, None, slice_get, refl, sym, ap, ◌∙◌, subst, inl, inr, true≢false, arith, list_any, nat_cmp, is_eq, is_gt, ordering_then, Ordering, Less, Equal, Greater, BTreeSet, contains, btree_set_len, ranked, nat_cmp_total, tied_itself, nat_cmp_is, Due, Run, Timer, Book, nth, least_due, timers_left, nth_at, Slot, slot_cmp, is_slot, slot, due_of, date_of_timer, has_slot, HasSlots, is_run, of_run, timers_of, timers_at, Before, IsLeast, Has, InRuns, the_least, runs_least}
 
 ---- Numbers and slots
 
@@ -96,10 +79,6 @@ module _ {T : Type 0} (date : T → ℕ × ℕ) where
             is ∙ comes b (has_slot date run ts q) (was ∙ ap (λ xs. has_slot date q.1 xs q) (ap f (sym same) ∙ none)) ∙ ap (λ n. has_slot date n ts q) same
         by false other = is ∙ kept b (has_slot date run ts q) (other_run run ts q other) ∙ was
 
-  -- the same by another function of the same values
-  pub calendar_same : (c : Calendar T) (f g : ℕ → List T) → ((n : ℕ) → f n ≡ g n) → IsCalendar date c f → IsCalendar date c g
-  calendar_same c f g same h = record { lists = λ n. h.lists n ∙ same n; slots = λ q. h.slots q ∙ ap (λ xs. has_slot date q.1 xs q) (same q.1) }
-
 ---- The first
 
 pub later : (v w : Bool) → w ≡ true → (v || w) ≡ true
@@ -155,26 +134,26 @@ none_by p (k ∷ ks) none = absurd (none (omega arith))
 pub none_in : (s : BTreeSet Slot) → (0 < btree_set_len s → ⊥) → (q : Slot) → contains slot_cmp s q ≡ false
 none_in s none q = none_by (is_slot q) s.keys none
 
-module _ (t : Calendar Timer) (b : Book) (at : ℕ) (h : IsCalendar date_of_timer t (timers_at b)) where
+module _ (s : BTreeSet Slot) (b : Book) (at : ℕ) (h : HasSlots date_of_timer s (timers_at b)) where
   abbrev OfBook : Due → Type 0
   OfBook d = ⊥ ⊎ InRuns 1 b.runs d
 
   by_book : IsLeast at OfBook (least_due b at)
   by_book = runs_least at 1 b.runs (λ d. ⊥) None (λ d none by. none)
 
-  there : (d : Due) → OfBook d → contains slot_cmp t.slots (slot_of d) ≡ true
+  there : (d : Due) → OfBook d → contains slot_cmp s (slot_of d) ≡ true
   there d (inl none) = absurd none
-  there d (inr has) = h.slots (slot_of d) ∙ runs_have b.runs d has
+  there d (inr has) = h (slot_of d) ∙ runs_have b.runs d has
 
-  pub none_due : ((q : Slot) → contains slot_cmp t.slots q ≡ false) → None ≡ least_due b at
+  pub none_due : ((q : Slot) → contains slot_cmp s q ≡ false) → None ≡ least_due b at
   none_due none = the_least at OfBook None (least_due b at) (λ d has by. true≢false (sym (there d has) ∙ none (slot_of d))) by_book
 
-  module _ (k : Slot) (least : (q : Slot) → contains slot_cmp t.slots q ≡ true → is_gt (slot_cmp k q) ≡ false) where
+  module _ (k : Slot) (least : (q : Slot) → contains slot_cmp s q ≡ true → is_gt (slot_cmp k q) ≡ false) where
     never_before : (d : Due) → OfBook d → Before d (due_of k) → ⊥
     never_before d has before = true≢false (sym (before_gt k d before) ∙ least (slot_of d) (there d has))
 
     pub later_due : at < k.0 → None ≡ least_due b at
     later_due late = the_least at OfBook None (least_due b at) (λ d has by. never_before d has (inl (omega (arith, late, by)))) by_book
 
-    pub first_due : contains slot_cmp t.slots k ≡ true → k.0 ≤ at → Some (due_of k) ≡ least_due b at
-    first_due has by = the_least at OfBook (Some (due_of k)) (least_due b at) (inr (of_nth b.runs k.1 k (sym (h.slots k) ∙ has)), by, λ d other soon. never_before d other) by_book
+    pub first_due : contains slot_cmp s k ≡ true → k.0 ≤ at → Some (due_of k) ≡ least_due b at
+    first_due has by = the_least at OfBook (Some (due_of k)) (least_due b at) (inr (of_nth b.runs k.1 k (sym (h k) ∙ has)), by, λ d other soon. never_before d other) by_book

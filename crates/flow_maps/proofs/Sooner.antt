@@ -1,24 +1,6 @@
 -- When there is more to be done, by the slots that come next.
-use Rattle.std.proofs.Common.{◌≡◌, ◌≤◌, ◌<◌, ◌+◌, ℕ, zero, suc, Bool, true, false, if◌then◌else◌, List, [], ◌∷◌, ◌++◌, Option, Some, None, slice_get, refl, sym, ap, subst, ◌∙◌, inl, inr, true≢false, arith}
-use Rattle.std.specs.Prelude.{◌⊎◌, nat_lt}
-use Rattle.std.specs.Prelude.{IfSome}
-use Rattle.std.specs.Ordering.{nat_cmp, is_gt, ordering_then}
-use Rattle.std.specs.BTreeSet.{BTreeSet, contains, IsKeyRangeOf, IsKeyInRange}
-use Rattle.std.specs.BTreeMap.Range.{IsLeBy}
-use Rattle.std.specs.declared.ops.Bound.TheVariants.{Included, Unbounded}
-use Rattle.std.proofs.Common.{Ordering, Less, Equal, Greater}
-use Rattle.std.proofs.lemmas.Cmp.{ranked}
-use Rattle.std.proofs.lemmas.Bool.{cases_Bool, ltb-true, ltb-false, lt-ltb, le-ltb}
-use Rattle.flow_base.specs.declared.book.Run.{Run}
-use Rattle.flow_base.specs.declared.book.OpenActivity.{OpenActivity}
-use Rattle.flow_model.specs.Book.{Book}
-use Rattle.flow_model.proofs.DueFirst.{Has}
-use Rattle.flow_model.proofs.Logs.{nth_at}
-use Rattle.flow_maps.specs.declared.calendar.Calendar.{Calendar}
-use Rattle.flow_maps.specs.Agenda.{tasks_of, tasks_at}
-use Rattle.flow_maps.specs.Calendars.{Slot, slot_cmp, slot, date_of_task, IsCalendar, IsNext}
-use Rattle.flow_maps.specs.Outlooks.{Waiting, waiting, waiting_in, waiting_from, sooner, with_next, with_ready, soonest}
-use Rattle.flow_maps.specs.Timers.{of_run}
+use Rattle.std.specs.Prelude.{◌≡◌, ◌≤◌, ◌<◌, ◌+◌, if◌then◌else◌, ◌∷◌, ◌++◌, ◌⊎◌}
+use Rattle.flow_maps.proofs.Names.{ℕ, zero, suc, Bool, true, false, List, [], Option, Some, None, slice_get, refl, sym, ap, subst, ◌∙◌, inl, inr, true≢false, arith, nat_lt, IfSome, nat_cmp, is_gt, ordering_then, BTreeSet, contains, IsKeyRangeOf, IsKeyInRange, IsLeBy, Included, Unbounded, Ordering, Less, Equal, Greater, ranked, cases_Bool, ltb-true, ltb-false, lt-ltb, le-ltb, Run, OpenActivity, Book, Has, nth_at, tasks_of, tasks_at, Slot, slot_cmp, slot, date_of_task, HasSlots, IsNext, Waiting, waiting, waiting_in, waiting_from, sooner, with_next, with_ready, soonest, of_run}
 use Rattle.flow_maps.proofs.Slots.{has_one, not_true, one_has}
 
 ---- The lesser of moments
@@ -126,20 +108,20 @@ at_waits b zero t has = absurd has
 at_waits b (suc k) t has =
     subst (λ m. Has (waiting b) (m, t)) (let e : 1 + k ≡ suc k = omega arith in e) (in_runs b.runs 1 k t (subst (λ o. Has (of_run tasks_of o) t) (nth_at b.runs (suc k) k refl) has))
 
-module _ (c : Calendar OpenActivity) (b : Book) (at : ℕ) (h : IsCalendar date_of_task c (tasks_at b)) where
-  has_place : (w : Waiting) → Has (waiting b) w → contains slot_cmp c.slots (slot date_of_task w.0 w.1) ≡ true
-  has_place w has = h.slots (slot date_of_task w.0 w.1) ∙ one_has date_of_task w.0 (tasks_at b w.0) w.1 (waits_at b w has)
+module _ (s : BTreeSet Slot) (b : Book) (at : ℕ) (h : HasSlots date_of_task s (tasks_at b)) where
+  has_place : (w : Waiting) → Has (waiting b) w → contains slot_cmp s (slot date_of_task w.0 w.1) ≡ true
+  has_place w has = h (slot date_of_task w.0 w.1) ∙ one_has date_of_task w.0 (tasks_at b w.0) w.1 (waits_at b w has)
 
-  none_next : (best : Option ℕ) → IsNext at c.slots None → best ≡ soonest at best (waiting b)
+  none_next : (best : Option ℕ) → IsNext at s None → best ≡ soonest at best (waiting b)
   none_next best none = sym (no_later at best (waiting b) (λ w has. not_true (nat_lt at w.1.ready) (λ later. none (slot date_of_task w.0 w.1) (has_place w has) (ltb-true at w.1.ready later))))
 
-  some_next : (best : Option ℕ) (m : ℕ) → IsNext at c.slots (Some m) → sooner best m ≡ soonest at best (waiting b)
+  some_next : (best : Option ℕ) (m : ℕ) → IsNext at s (Some m) → sooner best m ≡ soonest at best (waiting b)
   some_next best m next =
       let q = next.1.0 in
-      let it = has_one date_of_task q.1 (tasks_at b q.1) q (sym (h.slots q) ∙ next.1.1) in
-      sym (found at m best (waiting b) next.0 (λ w has later. next.2 (slot date_of_task w.0 w.1) (has_place w has) (ltb-true at w.1.ready later)) (q.1, it.0) (at_waits b q.1 it.0 it.1) (ap (λ (s : Slot). s.0) it.2 ∙ next.1.2))
+      let it = has_one date_of_task q.1 (tasks_at b q.1) q (sym (h q) ∙ next.1.1) in
+      sym (found at m best (waiting b) next.0 (λ w has later. next.2 (slot date_of_task w.0 w.1) (has_place w has) (ltb-true at w.1.ready later)) (q.1, it.0) (at_waits b q.1 it.0 it.1) (ap (λ (x : Slot). x.0) it.2 ∙ next.1.2))
 
-  pub next_is : (best o : Option ℕ) → IsNext at c.slots o → with_next best o ≡ soonest at best (waiting b)
+  pub next_is : (best o : Option ℕ) → IsNext at s o → with_next best o ≡ soonest at best (waiting b)
   next_is best None next = none_next best next
   next_is best (Some m) next = some_next best m next
 

@@ -1,41 +1,9 @@
 -- How a change is taken back: what the books before it and behind it have to do with one another.
-use Rattle.std.proofs.Common.{◌≡◌, ◌-◌, ◌+◌, ◌≤◌, ◌<◌, ℕ, zero, suc, Bool, true, false, if◌then◌else◌, nat_eq, List, [], ◌∷◌, ◌++◌, length, Option, Some, None, Vec, Global, slice_get, slice_set, refl, sym, ap, subst, ◌∙◌, arith, length-append, inl, inr}
-use Rattle.std.specs.Prelude.{◌⊎◌, IfSome, MatchOption}
-use Rattle.flow_base.specs.Syntax.{Bytes}
-use Rattle.flow_base.specs.declared.event.Event.{Event}
-use Rattle.flow_base.specs.declared.book.Change.TheVariants.{AddRun, AddTurn}
-use Rattle.flow_base.specs.declared.book.Run.{Run}
-use Rattle.flow_base.specs.declared.book.Timer.{Timer}
-use Rattle.flow_base.specs.declared.book.Turn.{Turn}
-use Rattle.flow_model.specs.Book.{Book, nth, changed, with_run, with_turn, unbegun_run}
-use Rattle.flow_model.specs.Configuration.{is_open}
-use Rattle.flow_model.specs.Open.{state_of}
-use Rattle.flow_model.specs.Turned.{turn_events}
-use Rattle.flow_model.proofs.Logs.{nth_at}
-use Rattle.flow_view.specs.Heads.{event_of}
-use Rattle.flow_view.specs.declared.head.Head.{Head}
-use Rattle.flow_maps.specs.Signals.{IsUntaken, asked_by}
-use Rattle.flow_maps.specs.Serving.{Serves}
-use Rattle.flow_maps.specs.Agenda.{IsOf}
-use Rattle.flow_maps.specs.Timers.{of_run, timers_at, timers_of}
-use Rattle.flow_maps.specs.Turned.{is_open_behind}
-use Rattle.flow_maps.specs.Undoing.{GoesBack, IsCut, IsUndo, Leads, LeadsBack, LeavesHistory, Returns, WasBefore, WasBegun, WasSo}
-use Rattle.flow_maps.specs.declared.agenda.Agenda.{Agenda}
-use Rattle.flow_maps.specs.declared.maps.Maps.{Maps}
-use Rattle.flow_maps.specs.declared.signals.SignalTaken.TheVariants.{NoSignal}
-use Rattle.flow_maps.specs.declared.undo.Journal.{Journal}
-use Rattle.flow_maps.specs.declared.undo.RunBefore.{RunBefore}
-use Rattle.flow_maps.specs.declared.undo.RunBegun.{RunBegun}
-use Rattle.flow_maps.specs.declared.undo.Undo.{Undo}
-use Rattle.flow_maps.proofs.Headed.{nth_own, turn_count}
-use Rattle.flow_maps.proofs.Serving.{run_is, some_weaker, turn_open}
-use Rattle.flow_maps.proofs.Signalled.{quiet_kept, quiet_run}
-
-none_is : {A : Type 0} (x : A) → None ≡ Some x → ⊥
-none_is x h = let same = h in cc
-
-some_is : {A : Type 0} (x y : A) → Some x ≡ Some y → x ≡ y
-some_is x y h = let same = h in cc
+use Rattle.std.specs.Prelude.{◌≡◌, ◌-◌, ◌+◌, if◌then◌else◌, ◌∷◌, ◌++◌}
+use Rattle.flow_maps.proofs.Names.{cases_Bool, inl, inr, ℕ, zero, suc, Bool, true, false, nat_eq, List, [], length, Option, Some, None, Vec, Global, slice_get, slice_set, refl, sym, ap, subst, ◌∙◌, arith, IfSome, MatchOption, Bytes, Change, AddText, AddRun, AddTurn, SetAttempt, SetText, Run, Book, nth, signalled, with_run, Head, IsIndex, name_of, request_key, KnowsTexts, replaced, Knows, KnowsOpen, KnowsRuns, made_of, KnowsFacts, Serves, IsUntaken, GoesBack, IsUndo, Leads, LeadsBack, Returns, WasBefore, WasBegun, Facts, KnownRuns, Maps, OpenSeats, TextBodies, Journal, RunBefore, Undo}
+use Rattle.flow_maps.proofs.Planning.{as_long, here_at, less_at, longer, more_at, next_free, none_is, of_at, same_view, set_at, some_is, twice_at}
+use Rattle.flow_maps.proofs.Seating.{known_same}
+use Rattle.flow_maps.proofs.Serving.{run_is}
 
 ---- One change behind others
 
@@ -80,91 +48,48 @@ lost_leads j is b c = subst (λ o. MatchOption o (Unit {0}) (λ us. Leads us.ite
 pub lost_returns : (m : Maps) → m.journal.steps ≡ None → (b : Book) → Returns m b
 lost_returns m is b = subst (λ o. MatchOption o (Unit {0}) (λ us. (c : Book) × Leads us.items b c × Serves m c)) (sym is) tt
 
----- Events
+---- The runs of the books
 
-within : {A : Type 0} (es : List A) (k : ℕ) (e : A) → slice_get es k ≡ Some e → k < length es
-within [] k e at = absurd (none_is e at)
-within (x ∷ es) zero e at = omega arith
-within (x ∷ es) (suc k) e at = let less = within es k e at in omega (arith, less)
+-- one more run
+pub runs_more : (m m' : KnownRuns) (b : Book) (r : Run) (run : ℕ) → run ≡ length b.runs + 1 → m'.count ≡ run
+    → (((f : ℕ → Option Bytes) → f run ≡ None → IsIndex m.requests f → IsIndex m'.requests (replaced run r.request f)))
+    → ((rs : ℕ → Option Run) → rs run ≡ None → KnowsOpen m.seats rs → KnowsOpen m'.seats (replaced run (Some r) rs)) → KnowsRuns m b → KnowsRuns m' (record b { runs = b.runs ++ r ∷ [] })
+runs_more m m' b r run at count requests seats h = record {
+  count = count ∙ at ∙ sym (longer b.runs r);
+  requests = subst (λ (f : ℕ → Option Bytes). IsIndex m'.requests f) (λ i n. (sym (of_at (name_of request_key) run (Some r) (λ k. nth b.runs k) n) ∙ ap (name_of request_key) (sym (more_at b.runs r run at n))) i)
+      (requests (λ n. name_of request_key (nth b.runs n)) (ap (name_of request_key) (next_free b.runs run at)) h.requests);
+  seats = known_same m'.seats (replaced run (Some r) (λ k. nth b.runs k)) (λ n. nth (b.runs ++ r ∷ []) n) (λ n. sym (more_at b.runs r run at n)) (seats (λ n. nth b.runs n) (next_free b.runs run at) h.seats);
+}
 
-get_part : {A : Type 0} (h es : List A) (k : ℕ) (e : A) → slice_get (h ++ es) k ≡ Some e → (slice_get h k ≡ Some e) ⊎ ((length h ≤ k) × (k < length h + length es))
-get_part [] es k e at = let less = within es k e at in inr (omega arith, omega (arith, less))
-get_part (x ∷ h) es zero e at = inl at
-get_part (x ∷ h) es (suc k) e at = go (get_part h es k e at)
-  where
-    go : (slice_get h k ≡ Some e) ⊎ ((length h ≤ k) × (k < length h + length es)) → (slice_get (x ∷ h) (suc k) ≡ Some e) ⊎ ((length (x ∷ h) ≤ suc k) × (suc k < length (x ∷ h) + length es))
-    go (inl there) = inl there
-    go (inr (more, less)) = inr (omega (arith, more), omega (arith, less))
-
-cut_behind : (h es : List Event) (last : ℕ) → length h + length es ≤ last → IsCut h (h ++ es) last
-cut_behind h es last fits zero e at = absurd (none_is e at)
-cut_behind h es last fits (suc k) e at = go (get_part h es k e (sym (nth_at (h ++ es) (suc k) k refl) ∙ at))
-  where
-    go : (slice_get h k ≡ Some e) ⊎ ((length h ≤ k) × (k < length h + length es)) → (event_of h (suc k) ≡ Some e) ⊎ ((length h < suc k) × (suc k ≤ last))
-    go (inl there) = inl (nth_at h (suc k) k refl ∙ there)
-    go (inr (more, less)) = inr (omega (arith, more), omega (arith, less, fits))
-
----- What takes back what
-
--- the timers that were copied
-pub timers_so : (a : Agenda) (o : Option (List Timer)) (b : Book) (run : ℕ) (r : Run) → nth b.runs run ≡ Some r → IfSome o (λ ts. (d : Book) → IsOf a d → ts ≡ timers_at d run) → IsOf a b → IfSome o (λ ts. ts ≡ timers_of r)
-timers_so a o b run r there is h = some_weaker o (λ ts. (d : Book) → IsOf a d → ts ≡ timers_at d run) (λ ts. ts ≡ timers_of r) (λ ts same. same b h ∙ ap (of_run timers_of) there) is
-
--- a turn
-pub turn_before : (v : RunBefore) (b : Book) (run : ℕ) (t : Turn) (r : Run) → v.run ≡ run → WasSo v b r → v.events ≡ v.head.events + 1 + length t.commands → v.is_open ≡ is_open_behind v.head.is_open t
-    → IsUntaken v.signal v.head.flow b (changed b (AddTurn run t)) → WasBefore v b (changed b (AddTurn run t))
-turn_before v b run t r number so events opened signals =
-    let there : nth b.runs run ≡ Some r = subst (λ n. nth b.runs n ≡ Some r) number so.there in
-    let es = turn_events (length r.history + 1) t.at t.input t.commands in
-    let count = turn_count t r in
-    let both = length-append r.history es in
-    let before = ap (λ (h : Head). h.events) so.head in
+-- one run less
+pub runs_less : (m m' : KnownRuns) (b : Book) (r : Run) → m'.count + 1 ≡ m.count
+    → ((f : ℕ → Option Bytes) (run : ℕ) → f run ≡ r.request → IsIndex m.requests f → IsIndex m'.requests (replaced run None f))
+    → ((rs : ℕ → Option Run) → KnowsOpen m.seats rs → KnowsOpen m'.seats (replaced m.count None rs)) → KnowsRuns m (record b { runs = b.runs ++ r ∷ [] }) → KnowsRuns m' b
+runs_less m m' b r count requests seats h =
+    let long = h.count ∙ longer b.runs r in
     record {
-      was = r;
-      now = with_turn t r;
-      so = so;
-      made = sym (run_is b run (with_turn t) r there) ∙ ap (λ (n : ℕ). record b { runs = slice_set b.runs (n - 1) (with_turn t r) }) (sym number);
-      flow = refl;
-      request = refl;
-      opened = turn_open t r ∙ ap (λ (h : Head). is_open_behind h.is_open t) so.head ∙ sym opened;
-      events = cut_behind r.history es v.events (omega (arith, count, both, before, events));
-      signals = signals;
+      count = let e : m'.count ≡ length b.runs = omega (arith, count, long) in e;
+      requests = subst (λ (f : ℕ → Option Bytes). IsIndex m'.requests f) (λ i n. (sym (of_at (name_of request_key) m.count None (λ k. nth (b.runs ++ r ∷ []) k) n) ∙ ap (name_of request_key) (sym (less_at b.runs r m.count long n))) i)
+          (requests (λ n. name_of request_key (nth (b.runs ++ r ∷ []) n)) m.count (ap (name_of request_key) (more_at b.runs r m.count long m.count ∙ here_at m.count (Some r) (λ k. nth b.runs k))) h.requests);
+      seats = known_same m'.seats (replaced m.count None (λ k. nth (b.runs ++ r ∷ []) k)) (λ n. nth b.runs n) (λ n. sym (less_at b.runs r m.count long n)) (seats (λ n. nth (b.runs ++ r ∷ []) n) h.seats);
     }
 
--- a change that leaves the history
-pub kept_before : (v : RunBefore) (b : Book) (run : ℕ) (f : Run → Run) (r : Run) → v.run ≡ run → WasSo v b r → v.is_open ≡ v.head.is_open → v.signal ≡ NoSignal → LeavesHistory f → WasBefore v b (with_run b run f)
-kept_before v b run f r number so opened quiet leaves =
-    let there : nth b.runs run ≡ Some r = subst (λ n. nth b.runs n ≡ Some r) number so.there in
-    record {
-      was = r;
-      now = f r;
-      so = so;
-      made = sym (run_is b run f r there) ∙ ap (λ (n : ℕ). record b { runs = slice_set b.runs (n - 1) (f r) }) (sym number);
-      flow = leaves.flow r;
-      request = leaves.request r;
-      opened = ap (λ h. is_open (state_of h)) (leaves.history r) ∙ ap (λ (h : Head). h.is_open) so.head ∙ sym opened;
-      events = λ id e at. inl (ap (λ h. event_of h id) (sym (leaves.history r)) ∙ at);
-      signals = subst (λ s. IsUntaken s v.head.flow b (with_run b run f)) (sym quiet) (λ fl q. sym (quiet_kept b run f leaves.flow leaves.history fl q));
-    }
+-- one run is another, with the same request
+module _ (m m' : KnownRuns) (b : Book) (x y : Run) (run : ℕ) (there : nth b.runs run ≡ Some x) (same : y.request ≡ x.request) (h : KnowsRuns m b) where
+  pub runs_set : m'.count ≡ m.count → m'.requests ≡ m.requests → KnowsOpen m'.seats (replaced run (Some y) (λ k. nth b.runs k)) → KnowsRuns m' (record b { runs = slice_set b.runs (run - 1) y })
+  runs_set count requests seats = record {
+    count = count ∙ h.count ∙ sym (as_long b.runs (run - 1) y);
+    requests = subst (λ i. IsIndex i (λ n. name_of request_key (nth (slice_set b.runs (run - 1) y) n))) (sym requests)
+        (subst (λ (f : ℕ → Option Bytes). IsIndex m.requests f) (λ i n. (same_view (name_of request_key) (λ k. nth b.runs k) run (Some y) (ap (name_of request_key) there ∙ sym same) n ∙ ap (name_of request_key) (sym (set_at b.runs run x y there n))) i) h.requests);
+    seats = known_same m'.seats (replaced run (Some y) (λ k. nth b.runs k)) (λ n. nth (slice_set b.runs (run - 1) y) n) (λ n. sym (set_at b.runs run x y there n)) seats;
+  }
 
--- a run that begins
-pub run_begun : (v : RunBegun) (b : Book) (flow : Bytes) (request : Option Bytes) (text : ℕ) (t : Turn) → v.number ≡ length b.runs + 1 → v.flow ≡ flow → v.request ≡ request → v.is_open ≡ is_open_behind false t
-    → v.events ≡ 0 + 1 + length t.commands → (v.is_quiet ≡ true → asked_by t.input ≡ None) → WasBegun v b (changed b (AddRun flow request text t))
-run_begun v b flow request text t number own asked opened events quiet =
-    let fresh = unbegun_run flow request text in
-    let es = turn_events (length fresh.history + 1) t.at t.input t.commands in
-    let count = turn_count t fresh in
-    let both = length-append fresh.history es in
-    record {
-      now = with_turn t fresh;
-      made = refl;
-      number = number;
-      flow = sym own;
-      request = sym asked;
-      opened = turn_open t fresh ∙ sym opened;
-      events = cut_behind [] es v.events (omega (arith, count, both, events));
-      signals = λ silent f q. sym (quiet_run b flow request text t (quiet silent) f q);
-    }
+-- what was taken out is put again
+pub put_again : (m : OpenSeats) (run : ℕ) (x : Option Run) (rs : ℕ → Option Run) → KnowsOpen m (replaced run x (replaced run None rs)) → KnowsOpen m (replaced run x rs)
+put_again m run x rs h = known_same m (replaced run x (replaced run None rs)) (replaced run x rs) (twice_at run x None rs) h
+
+pub left_out : (run : ℕ) (rs : ℕ → Option Run) → replaced run None rs run ≡ None
+left_out run rs = here_at run None rs
 
 ---- The book before
 
@@ -182,7 +107,41 @@ got xs n x at = go (nat_eq n 0) at
 
 module _ (u : RunBefore) (b c : Book) (h : WasBefore u b c) where
   pub now_there : nth c.runs u.run ≡ Some h.now
-  now_there = ap (λ (x : Book). nth x.runs u.run) h.made ∙ nth_own b.runs u.run h.was h.now h.so.there
+  now_there = ap (λ (x : Book). nth x.runs u.run) h.made ∙ set_at b.runs u.run h.was h.now h.there u.run ∙ here_at u.run (Some h.now) (λ k. nth b.runs k)
 
   pub back_is : record c { runs = slice_set c.runs (u.run - 1) h.was } ≡ b
-  back_is = ap (λ (x : Book). record x { runs = slice_set x.runs (u.run - 1) h.was }) h.made ∙ ap (λ rs. record b { runs = rs }) (slice_again b.runs (u.run - 1) h.now h.was (got b.runs u.run h.was h.so.there))
+  back_is = ap (λ (x : Book). record x { runs = slice_set x.runs (u.run - 1) h.was }) h.made ∙ ap (λ rs. record b { runs = rs }) (slice_again b.runs (u.run - 1) h.now h.was (got b.runs u.run h.was h.there))
+
+---- The first book
+
+no_run : {A : Type 0} (xs : List A) (n : ℕ) → xs ≡ [] → None ≡ nth xs n
+no_run [] n none = elim (cases_Bool (nat_eq n 0)) [ inl zeroth ↦ rw zeroth refl | inr other ↦ rw other refl ]
+no_run (x ∷ xs) n none = absurd (let e = none in cc)
+
+pub no_runs : (m : KnownRuns) (b : Book) → b.runs ≡ [] → m.count ≡ 0 → IsIndex m.requests (λ n. None) → KnowsOpen m.seats (λ n. None) → KnowsRuns m b
+no_runs m b none count requests seats = record {
+  count = count ∙ sym (ap (λ rs. length rs) none);
+  requests = subst (λ (f : ℕ → Option Bytes). IsIndex m.requests f) (λ i n. ap (name_of request_key) (no_run b.runs n none) i) requests;
+  seats = known_same m.seats (λ n. None) (λ n. nth b.runs n) (λ n. no_run b.runs n none) seats;
+}
+
+-- a run that is changed has the same request
+pub made_request : (c : Change) (r : Run) → (made_of c r).request ≡ r.request
+made_request (AddTurn run t) r = refl
+made_request (SetAttempt run event attempt ready) r = refl
+made_request (SetText run text) r = refl
+made_request (AddText body) r = refl
+made_request (AddRun flow request text t) r = refl
+
+-- of a book without its last text is known what is known of the runs
+pub texts_less : (f : Facts) (b c : Book) → ((t : Bytes) × (c ≡ record b { texts = b.texts ++ t ∷ [] })) → Knows f c → Knows f b
+texts_less f b c (t, made) h =
+    let was = subst (λ (x : Book). Knows f x) made h in
+    record { runs = record { count = was.runs.count; requests = was.runs.requests; seats = was.runs.seats }; signals = was.signals }
+
+-- what is known of the runs, where it is
+pub known_facts : (o : Option Facts) (f : Facts) (b : Book) → o ≡ Some f → KnowsFacts o b → Knows f b
+known_facts o f b is h = subst (λ x. KnowsFacts x b) is h
+
+pub texts_kept : (m : TextBodies) (b c : Book) (rs : List Run) → c ≡ record b { runs = rs } → KnowsTexts m c → KnowsTexts m b
+texts_kept m b c rs made h = subst (λ (x : Book). KnowsTexts m x) made h

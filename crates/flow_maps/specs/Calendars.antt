@@ -9,8 +9,6 @@ use Rattle.std.specs.declared.ops.Bound.TheVariants.{Excluded, Included}
 use Rattle.flow_base.specs.declared.book.Due.{Due}
 use Rattle.flow_base.specs.declared.book.OpenActivity.{OpenActivity}
 use Rattle.flow_base.specs.declared.book.Timer.{Timer}
-use Rattle.flow_maps.specs.declared.calendar.Calendar.{Calendar}
-use Rattle.flow_maps.specs.OfRuns.{list_of}
 
 -- a moment, a run and an event
 abbrev pub Slot : Type 0
@@ -49,7 +47,6 @@ module _ {T : Type 0} (date : T → ℕ × ℕ) where
   abbrev pub has_slot : ℕ → List T → Slot → Bool
   has_slot run ts q = list_any (λ (t : T). is_slot (slot run t) q) ts
 
-  -- These are the things of runs, by run and by moment.
-  pub record IsCalendar (c : Calendar T) (f : ℕ → List T) : Type 0 where
-    pub lists : (n : ℕ) → list_of c.lists n ≡ f n
-    pub slots : (q : Slot) → contains slot_cmp c.slots q ≡ has_slot q.1 (f q.1) q
+  -- These are the slots of what runs have.
+  abbrev pub HasSlots : BTreeSet Slot → (ℕ → List T) → Type 0
+  HasSlots s f = (q : Slot) → contains slot_cmp s q ≡ has_slot q.1 (f q.1) q

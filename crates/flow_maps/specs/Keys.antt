@@ -1,30 +1,38 @@
--- The keys of runs, in the order of the runs, and what numbers say of them.
-use Rattle.std.specs.Prelude.{◌≡◌, ◌+◌, ℕ, Bool, false, MatchBool, List, [], ◌∷◌, length, Option, Some, None, MatchOption, bytes_eq}
+-- The names by which runs are found, and what an index says of them.
+use Rattle.std.specs.Prelude.{◌≡◌, ℕ, Bool, true, false, Option, Some, None, bytes_eq, if◌then◌else◌}
 use Rattle.flow_base.specs.Syntax.{Bytes}
-use Rattle.flow_model.specs.Book.{first_from}
+use Rattle.flow_base.specs.declared.book.Run.{Run}
+use Rattle.flow_maps.specs.Agenda.{is_open_run}
 use Rattle.flow_maps.specs.Names.{at_name}
-use Rattle.flow_maps.specs.declared.index.Numbers.{Numbers}
 use Rattle.flow_maps.specs.declared.index.Index.{Index}
 
--- whether a run that has this key, or none, has that one
+-- whether a run that has this name, or none, has that one
 abbrev pub is_key : Bytes → Option Bytes → Bool
 is_key q None = false
 is_key q (Some k) = bytes_eq k q
 
--- o is the number of the only one with the key q, from number n on; none where none has it
-abbrev pub IsOnly : Option ℕ → Bytes → ℕ → List (Option Bytes) → Type 0
-IsOnly o q n [] = o ≡ None
-IsOnly o q n (k ∷ ks) = MatchBool (is_key q k) ((o ≡ Some n) × IsOnly None q (n + 1) ks) (IsOnly o q (n + 1) ks)
+-- a run is found by its request, if it has one
+abbrev pub request_key : Run → Option Bytes
+request_key r = r.request
 
--- the number of the first with a key
-abbrev pub key_found : Bytes → List (Option Bytes) → Option ℕ
-key_found q ks = first_from (is_key q) 1 ks
+-- a name where it counts
+abbrev pub key_if : Bool → Bytes → Option Bytes
+key_if b flow = if b then Some flow else None
 
--- The numbers are of these keys, each of which stands once.
-pub record Numbered (m : Numbers) (ks : List (Option Bytes)) : Type 0 where
-  pub count : m.count ≡ length ks
-  pub numbers : (q : Bytes) → IsOnly (at_name m.map q) q 1 ks
+-- and by its flow, as long as it is open
+abbrev pub open_key : Run → Option Bytes
+open_key r = key_if (is_open_run r) r.flow
 
--- What is known is of these keys.
-abbrev pub Lists : Index → List (Option Bytes) → Type 0
-Lists i ks = MatchOption i.numbers (Unit {0}) (λ m. Numbered m ks)
+-- the name of a run, if it is there
+abbrev pub name_of : (Run → Option Bytes) → Option Run → Option Bytes
+name_of key None = None
+name_of key (Some r) = key r
+
+-- the name q is that of the run of this number and of no other one; none where none has it
+abbrev pub IsFound : Option ℕ → Bytes → (ℕ → Option Bytes) → Type 0
+IsFound None q f = (n : ℕ) → is_key q (f n) ≡ false
+IsFound (Some m) q f = (is_key q (f m) ≡ true) × ((n : ℕ) → is_key q (f n) ≡ true → n ≡ m)
+
+-- The numbers are those of the runs with these names, each of which one run has.
+abbrev pub IsIndex : Index → (ℕ → Option Bytes) → Type 0
+IsIndex m f = (q : Bytes) → IsFound (at_name m.map q) q f

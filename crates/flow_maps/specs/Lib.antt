@@ -2,13 +2,11 @@ pub mod Agenda
 pub mod Calendars
 pub mod Gathering
 pub mod Keys
-pub mod KnownCalls
-pub mod KnownHeads
-pub mod KnownRecords
 pub mod KnownTexts
 pub mod Names
 pub mod OfRuns
 pub mod Outlooks
+pub mod Seats
 pub mod Serving
 pub mod Signals
 pub mod Timers

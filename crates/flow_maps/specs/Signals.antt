@@ -1,5 +1,5 @@
--- Where the signals of flows are recorded, by their flows and requests: of all flows all is known, or nothing.
-use Rattle.std.specs.Prelude.{◌≡◌, ◌+◌, ℕ, List, Option, Some, None, MatchOption, bytes_eq, false, if◌then◌else◌}
+-- Where the signals of flows are recorded, by their flows and requests.
+use Rattle.std.specs.Prelude.{◌≡◌, ◌+◌, ℕ, List, Option, Some, None, bytes_eq, false, if◌then◌else◌}
 use Rattle.flow_base.specs.Syntax.{Bytes}
 use Rattle.flow_base.specs.declared.event.Event.{Event}
 use Rattle.flow_base.specs.declared.event.Input.{Input}
@@ -8,9 +8,6 @@ use Rattle.flow_base.specs.declared.event.What.TheVariants.{Came, Asked}
 use Rattle.flow_model.specs.Book.{Book, signal_in, signalled, found_in}
 use Rattle.flow_maps.specs.Names.{at_name, both}
 use Rattle.flow_maps.specs.declared.signals.SignalEvents.{SignalEvents}
-use Rattle.flow_maps.specs.declared.signals.Signals.{Signals}
-use Rattle.flow_maps.specs.declared.signals.SignalTaken.{SignalTaken}
-use Rattle.flow_maps.specs.declared.signals.SignalTaken.TheVariants.{NoSignal, First, Unsure}
 
 -- the event that records the signal of a request in the runs of a flow, by the map
 abbrev pub at_request : SignalEvents → Bytes → Bytes → Option (ℕ × ℕ)
@@ -38,10 +35,6 @@ with_history flow run h g f q = or_later (g f q) (found_in run (if bytes_eq flow
 abbrev pub AreOf : SignalEvents → Book → Type 0
 AreOf m b = (flow q : Bytes) → at_request m flow q ≡ signalled b flow q
 
--- what is known is of this book
-abbrev pub KnowsSignals : Signals → Book → Type 0
-KnowsSignals s b = MatchOption s.events (Unit {0}) (λ m. AreOf m b)
-
 -- another book says nothing else of the other flows
 abbrev pub IsSameBut : Book → Book → Bytes → Type 0
 IsSameBut b c but = (flow : Bytes) → bytes_eq but flow ≡ false → (q : Bytes) → signalled c flow q ≡ signalled b flow q
@@ -54,7 +47,6 @@ pub record IsTaken (b c : Book) (flow : Bytes) (run count : ℕ) (request : Byte
   pub taken : signalled b flow request ≡ None → signalled c flow request ≡ Some (run, count + 1)
 
 -- The first book has the signals of the second, but for that of a run of this flow which the second has more.
-abbrev pub IsUntaken : SignalTaken → Bytes → Book → Book → Type 0
-IsUntaken NoSignal flow b c = (f q : Bytes) → signalled b f q ≡ signalled c f q
-IsUntaken (First request) flow b c = (f q : Bytes) → signalled b f q ≡ (if bytes_eq (both flow request) (both f q) then None else signalled c f q)
-IsUntaken Unsure flow b c = Unit {0}
+abbrev pub IsUntaken : Option Bytes → Bytes → Book → Book → Type 0
+IsUntaken None flow b c = (f q : Bytes) → signalled b f q ≡ signalled c f q
+IsUntaken (Some request) flow b c = (f q : Bytes) → signalled b f q ≡ (if bytes_eq (both flow request) (both f q) then None else signalled c f q)

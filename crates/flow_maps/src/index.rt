@@ -1,19 +1,19 @@
-ghost use Rattle.std.specs.Prelude.{◌≡◌, ◌-◌, ◌++◌, ◌∷◌, [], List, Option, Some, None, true, IfSome, slice_set};
+//! The numbers of runs by names, in memory.
+ghost use Rattle.std.specs.Prelude.{◌≡◌, ℕ, Option, Some, None, true, IfSome};
 ghost use Rattle.flow_base.specs.Syntax.{Bytes};
-ghost use Rattle.flow_model.specs.Book.{nth};
-ghost use Rattle.flow_maps.specs.Keys.{Numbered, Lists, key_found};
+ghost use Rattle.flow_maps.specs.Keys.{IsFound, IsIndex};
+ghost use Rattle.flow_maps.specs.OfRuns.{replaced};
 
 use crate::name::Name;
-use crate::turned::count_before;
-use flow_base::number::{LAST_NUMBER, RunId};
+use flow_base::number::RunId;
 use flow_base::text::Key;
 use std::alloc::Global;
 use std::collections::BTreeMap;
 
-/// The numbers of so many runs by their keys. Each has four bytes: more runs than that have no room in memory.
+/// The numbers of runs by their names. Each has four bytes: more runs than that have no room in memory.
 #[derive(Drop)]
-pub struct Numbers {
-    count: u64,
+pub struct Index {
+    alloc: Global,
     map: BTreeMap<Name, u32>,
 }
 
@@ -27,65 +27,23 @@ pub(crate) fn in_four_bytes(number: u64) -> Option<u32>
     Some(number as u32)
 }
 
-impl Numbers {
-    fn new(alloc: Global) -> Numbers
-        ensures { Numbered result [] }
+impl Index {
+    /// No run has a name.
+    pub fn new(alloc: Global) -> Index
+        ensures { IsIndex result (λ n. None) }
     {
-        Numbers {
-            count: 0,
+        Index {
+            alloc,
             map: BTreeMap::new(alloc),
         }
     }
 
-    /// One more run, without a key.
-    fn add_none(&mut self) -> bool
-        ensures { result ≡ true → (ks : List (Option Bytes)) → Numbered self.old ks → Numbered self.new (ks ++ None ∷ []) }
+    /// A run that had no name has this one. Whether none had it, and there was memory for it.
+    pub fn put(&mut self, run: RunId, name: &Key) -> bool
+        ensures { result ≡ true → (f : ℕ → Option Bytes) → f run ≡ None → IsIndex self.old f
+            → IsIndex self.new (replaced run (Some name.now) f) }
     {
-        if self.count >= LAST_NUMBER {
-            return false;
-        }
-        self.count += 1;
-        true
-    }
-
-    /// One more run, with this key, which none has yet.
-    fn add(&mut self, alloc: Global, key: &str) -> bool
-        ensures { result ≡ true → (ks : List (Option Bytes)) → Numbered self.old ks → Numbered self.new (ks ++ Some key.now ∷ []) }
-    {
-        let Some(name) = Name::new(alloc, key.as_bytes()) else {
-            return false;
-        };
-        if self.map.contains_key(&name) || self.count >= LAST_NUMBER {
-            return false;
-        }
-        let Some(number) = in_four_bytes(self.count + 1) else {
-            return false;
-        };
-        let Ok(_) = self.map.insert(name, number) else {
-            return false;
-        };
-        self.count += 1;
-        true
-    }
-
-    /// A run has its key no more. Whether there was memory to look for it.
-    fn remove(&mut self, alloc: Global, key: &str) -> bool
-        ensures { result ≡ true → (ks : List (Option Bytes)) → (n : _) → nth ks n ≡ Some (Some key.now) → Numbered self.old ks
-            → Numbered self.new (slice_set ks (n - 1) None) }
-    {
-        let Some(name) = Name::new(alloc, key.as_bytes()) else {
-            return false;
-        };
-        self.map.remove(&name);
-        true
-    }
-
-    /// A run that has no key has this one again, which none has. Whether there was memory for it.
-    fn put_back(&mut self, alloc: Global, run: RunId, key: &str) -> bool
-        ensures { result ≡ true → (ks : List (Option Bytes)) → nth ks run ≡ Some None → Numbered self.old ks
-            → Numbered self.new (slice_set ks (run - 1) (Some key.now)) }
-    {
-        let Some(name) = Name::new(alloc, key.as_bytes()) else {
+        let Some(name) = Name::new(self.alloc, name.as_str().as_bytes()) else {
             return false;
         };
         if self.map.contains_key(&name) {
@@ -100,37 +58,44 @@ impl Numbers {
         true
     }
 
-    /// The last run, which has no key, is there no more.
-    fn take_none_back(&mut self) -> bool
-        ensures { result ≡ true → (ks : List (Option Bytes)) → Numbered self.old (ks ++ None ∷ []) → Numbered self.new ks }
+    /// The same of a run that may have none.
+    pub fn put_if(&mut self, run: RunId, name: &Option<Key>) -> bool
+        ensures { result ≡ true → (f : ℕ → Option Bytes) → f run ≡ None → IsIndex self.old f → IsIndex self.new (replaced run name.now f) }
     {
-        let Some(count) = count_before(self.count) else {
-            return false;
-        };
-        self.count = count;
-        true
+        match name {
+            Some(name) => self.put(run, name),
+            None => true,
+        }
     }
 
-    /// The last run, which has this key, is there no more. Whether there was memory to look for it.
-    fn take_back(&mut self, alloc: Global, key: &str) -> bool
-        ensures { result ≡ true → (ks : List (Option Bytes)) → Numbered self.old (ks ++ Some key.now ∷ []) → Numbered self.new ks }
+    /// A run has its name no more. Whether there was memory to look for it.
+    pub fn remove(&mut self, name: &Key) -> bool
+        ensures { result ≡ true → (f : ℕ → Option Bytes) → (run : ℕ) → f run ≡ Some name.now → IsIndex self.old f
+            → IsIndex self.new (replaced run None f) }
     {
-        let Some(name) = Name::new(alloc, key.as_bytes()) else {
+        let Some(name) = Name::new(self.alloc, name.as_str().as_bytes()) else {
             return false;
         };
-        let Some(count) = count_before(self.count) else {
-            return false;
-        };
-        self.count = count;
         self.map.remove(&name);
         true
     }
 
-    /// The run with a key, if there is memory to look for it.
-    fn find(&self, alloc: Global, key: &Key) -> Option<Option<RunId>>
-        ensures { IfSome result (λ o. (ks : List (Option Bytes)) → Numbered self.now ks → o ≡ key_found key.now ks) }
+    /// The same of a run that may have none.
+    pub fn remove_if(&mut self, name: &Option<Key>) -> bool
+        ensures { result ≡ true → (f : ℕ → Option Bytes) → (run : ℕ) → f run ≡ name.now → IsIndex self.old f
+            → IsIndex self.new (replaced run None f) }
     {
-        let Some(name) = Name::new(alloc, key.as_str().as_bytes()) else {
+        match name {
+            Some(name) => self.remove(name),
+            None => true,
+        }
+    }
+
+    /// The run with a name, if there is memory to look for it.
+    pub fn find(&self, name: &Key) -> Option<Option<RunId>>
+        ensures { IfSome result (λ o. (f : ℕ → Option Bytes) → IsIndex self.now f → IsFound o name.now f) }
+    {
+        let Some(name) = Name::new(self.alloc, name.as_str().as_bytes()) else {
             return None;
         };
         let Some(number) = self.map.get(&name) else {
@@ -140,131 +105,5 @@ impl Numbers {
             return None;
         };
         Some(Some(run))
-    }
-}
-
-/// What is known of the numbers of runs by their keys: all, or nothing.
-#[derive(Drop)]
-pub struct Index {
-    alloc: Global,
-    numbers: Option<Numbers>,
-}
-
-impl Index {
-    /// No run yet.
-    pub fn new(alloc: Global) -> Index
-        ensures { Lists result [] }
-    {
-        Index {
-            alloc,
-            numbers: Some(Numbers::new(alloc)),
-        }
-    }
-
-    /// Nothing is known.
-    pub fn unknown(alloc: Global) -> Index
-        ensures { (ks : List (Option Bytes)) → Lists result ks }
-    {
-        Index {
-            alloc,
-            numbers: None,
-        }
-    }
-
-    /// From now on nothing is known.
-    pub fn forget(&mut self)
-        ensures { (ks : List (Option Bytes)) → Lists self.new ks }
-    {
-        self.numbers = None;
-    }
-
-    /// One more run, without a key.
-    pub fn add_none(&mut self)
-        ensures { (ks : List (Option Bytes)) → Lists self.old ks → Lists self.new (ks ++ None ∷ []) }
-    {
-        let known = match &mut self.numbers {
-            Some(numbers) => numbers.add_none(),
-            None => false,
-        };
-        if !known {
-            self.forget();
-        }
-    }
-
-    /// One more run, with this key. Where one has it, or there is no memory, nothing is known any more.
-    pub fn add(&mut self, key: &str)
-        ensures { (ks : List (Option Bytes)) → Lists self.old ks → Lists self.new (ks ++ Some key.now ∷ []) }
-    {
-        let known = match &mut self.numbers {
-            Some(numbers) => numbers.add(self.alloc, key),
-            None => false,
-        };
-        if !known {
-            self.forget();
-        }
-    }
-
-    /// A run has its key no more. Without memory to look for it nothing is known any more.
-    pub fn remove(&mut self, key: &str)
-        ensures { (ks : List (Option Bytes)) → (n : _) → nth ks n ≡ Some (Some key.now) → Lists self.old ks
-            → Lists self.new (slice_set ks (n - 1) None) }
-    {
-        let known = match &mut self.numbers {
-            Some(numbers) => numbers.remove(self.alloc, key),
-            None => false,
-        };
-        if !known {
-            self.forget();
-        }
-    }
-
-    /// A run that has no key has this one again. Where another has it, or there is no memory, nothing is known any more.
-    pub fn put_back(&mut self, run: RunId, key: &str)
-        ensures { (ks : List (Option Bytes)) → nth ks run ≡ Some None → Lists self.old ks
-            → Lists self.new (slice_set ks (run - 1) (Some key.now)) }
-    {
-        let known = match &mut self.numbers {
-            Some(numbers) => numbers.put_back(self.alloc, run, key),
-            None => false,
-        };
-        if !known {
-            self.forget();
-        }
-    }
-
-    /// The last run, which has no key, is there no more.
-    pub fn take_none_back(&mut self)
-        ensures { (ks : List (Option Bytes)) → Lists self.old (ks ++ None ∷ []) → Lists self.new ks }
-    {
-        let known = match &mut self.numbers {
-            Some(numbers) => numbers.take_none_back(),
-            None => false,
-        };
-        if !known {
-            self.forget();
-        }
-    }
-
-    /// The last run, which has this key, is there no more. Without memory to look for it nothing is known any more.
-    pub fn take_back(&mut self, key: &str)
-        ensures { (ks : List (Option Bytes)) → Lists self.old (ks ++ Some key.now ∷ []) → Lists self.new ks }
-    {
-        let known = match &mut self.numbers {
-            Some(numbers) => numbers.take_back(self.alloc, key),
-            None => false,
-        };
-        if !known {
-            self.forget();
-        }
-    }
-
-    /// The run with a key, if it is known and there is memory to look for it.
-    pub fn find(&self, key: &Key) -> Option<Option<RunId>>
-        ensures { IfSome result (λ o. (ks : List (Option Bytes)) → Lists self.now ks → o ≡ key_found key.now ks) }
-    {
-        match &self.numbers {
-            Some(numbers) => numbers.find(self.alloc, key),
-            None => None,
-        }
     }
 }

@@ -1,22 +1,25 @@
 //! What the runs of a book wait for at a moment: what may be attempted by then, and when there is more to be done.
 ghost use Rattle.std.specs.Prelude.{◌≡◌, ◌≤◌, ◌+◌, ◌++◌, ◌∷◌, ◌&&◌, [], ℕ, IfSome, OnOk, cond, filter, nat_le, option_map, true};
+ghost use Rattle.std.specs.BTreeMap.{get};
 ghost use Rattle.std.specs.BTreeSet.{contains};
 ghost use Rattle.std.specs.List.{list_any};
 ghost use Rattle.std.specs.Ordering.{nat_cmp};
-ghost use Rattle.flow_model.specs.Book.{Book};
-ghost use Rattle.flow_maps.specs.Agenda.{open_runs as count_open, tasks_at};
-ghost use Rattle.flow_maps.specs.Calendars.{IsCalendar, IsNext, Slot, date_of_task, part_within};
-ghost use Rattle.flow_maps.specs.OfRuns.{list_of, is_run};
+ghost use Rattle.flow_model.specs.Book.{Book, nth};
+ghost use Rattle.flow_maps.specs.Agenda.{tasks_at};
+ghost use Rattle.flow_maps.specs.Calendars.{HasSlots, IsNext, Slot, date_of_task, part_within};
+ghost use Rattle.flow_maps.specs.OfRuns.{is_run};
+ghost use Rattle.flow_maps.specs.Seats.{KnowsOpen, seat_tasks};
 ghost use Rattle.flow_maps.specs.Outlooks as rule;
 ghost use Rattle.flow_maps.specs.Outlooks.{is_within, ready_within, waiting, waiting_in};
 
-use crate::calendar::Calendar;
-use crate::of_runs::OfRuns;
+use crate::open_seats::OpenSeats;
+use crate::seat::Seat;
+use crate::time_slots::{TimeSlots, first_due};
 use flow_base::book::{Due, OpenActivity};
 use flow_base::number::{Moment, RunId};
 use flow_base::sequence::Sequence;
 use std::alloc::{AllocError, Global};
-use std::collections::BTreeSet;
+use std::collections::{BTreeMap, BTreeSet};
 
 /// What a book waits for at a moment.
 #[derive(Drop)]
@@ -78,17 +81,17 @@ fn add_run(
     since: u64,
     at: Moment,
     number: u64,
-    tasks: &OfRuns<OpenActivity>,
+    seats: &BTreeMap<u64, Seat>,
 ) -> bool
     ensures { result ≡ true → list.new.items ≡ list.old.items ++ filter (is_within since at)
-        (waiting_in number (list_of tasks.now number)) }
+        (waiting_in number (seat_tasks (get nat_cmp seats.now number))) }
 {
-    match tasks.lists.get(&number) {
-        Some(tasks) => {
+    match seats.get(&number) {
+        Some(seat) => {
             let Some(run) = RunId::new(number) else {
                 return false;
             };
-            add_tasks(list, since, at, run, tasks.as_slice()).is_ok()
+            add_tasks(list, since, at, run, seat.head.tasks.as_slice()).is_ok()
         }
         None => true,
     }
@@ -113,18 +116,13 @@ fn first_of(since: u64, at: Moment) -> u64
 }
 
 /// The runs of the slots from one moment to another, in order; none where there is no memory.
-fn runs_within(
-    alloc: Global,
-    tasks: &Calendar<OpenActivity>,
-    first: u64,
-    at: Moment,
-) -> Option<BTreeSet<u64>>
+fn runs_within(alloc: Global, ready: &TimeSlots, first: u64, at: Moment) -> Option<BTreeSet<u64>>
     requires { first ≤ at + 1 }
     ensures { IfSome result (λ s. (n : ℕ) → contains nat_cmp s n ≡ list_any (λ (q : Slot). is_run q.1 n)
-        (part_within first at tasks.now.slots.keys)) }
+        (part_within first at ready.now.keys)) }
 {
     let mut runs = BTreeSet::new(alloc);
-    for slot in tasks.slots.range((first, 0, 0)..(at.get() + 1, 0, 0)) {
+    for slot in ready.range((first, 0, 0)..(at.get() + 1, 0, 0)) {
         if !add_slot(&mut runs, slot) {
             return None;
         }
@@ -135,18 +133,18 @@ fn runs_within(
 /// What these runs have that may be attempted by a moment, and not before another; none where there is no memory.
 fn listed_of(
     alloc: Global,
-    tasks: &Calendar<OpenActivity>,
+    seats: &OpenSeats,
     runs: &BTreeSet<u64>,
     since: u64,
     at: Moment,
 ) -> Option<Sequence<(RunId, OpenActivity)>>
-    ensures { IfSome result (λ v. (b : Book) → IsCalendar date_of_task tasks.now (tasks_at b) → (first : ℕ) → first ≤ since
-        → ((n : ℕ) → contains nat_cmp runs.now n ≡ list_any (λ (q : Slot). is_run q.1 n) (part_within first at tasks.now.slots.keys))
+    ensures { IfSome result (λ v. (b : Book) → KnowsOpen seats.now (λ n. nth b.runs n) → (first : ℕ) → first ≤ since
+        → ((n : ℕ) → contains nat_cmp runs.now n ≡ list_any (λ (q : Slot). is_run q.1 n) (part_within first at seats.now.ready.keys))
         → v ≡ ready_within since at b) }
 {
     let mut list = Vec::new(alloc);
     for number in runs {
-        if !add_run(&mut list, since, at, *number, &tasks.lists) {
+        if !add_run(&mut list, since, at, *number, &seats.by_run) {
             return None;
         }
     }
@@ -156,17 +154,17 @@ fn listed_of(
 /// The open activities that may be attempted by a moment, and not before another; none where there is no memory.
 fn listed(
     alloc: Global,
-    tasks: &Calendar<OpenActivity>,
+    seats: &OpenSeats,
     since: u64,
     at: Moment,
 ) -> Option<Sequence<(RunId, OpenActivity)>>
-    ensures { IfSome result (λ v. (b : Book) → IsCalendar date_of_task tasks.now (tasks_at b) → v ≡ ready_within since at b) }
+    ensures { IfSome result (λ v. (b : Book) → KnowsOpen seats.now (λ n. nth b.runs n) → v ≡ ready_within since at b) }
 {
     let first = first_of(since, at);
-    let Some(runs) = runs_within(alloc, tasks, first, at) else {
+    let Some(runs) = runs_within(alloc, &seats.ready, first, at) else {
         return None;
     };
-    let Some(list) = listed_of(alloc, tasks, &runs, since, at) else {
+    let Some(list) = listed_of(alloc, seats, &runs, since, at) else {
         return None;
     };
     Some(list)
@@ -216,10 +214,10 @@ pub(crate) fn soonest(
 }
 
 /// The first moment of a slot after one, if there is such a slot; none where it is no moment.
-fn next_slot(tasks: &Calendar<OpenActivity>, at: Moment) -> Option<Option<Moment>>
-    ensures { IfSome result (λ o. IsNext at tasks.now.slots o) }
+fn next_slot(ready: &TimeSlots, at: Moment) -> Option<Option<Moment>>
+    ensures { IfSome result (λ o. IsNext at ready.now o) }
 {
-    let mut later = tasks.slots.range((at.get() + 1, 0, 0)..);
+    let mut later = ready.range((at.get() + 1, 0, 0)..);
     let Some(slot) = later.next() else {
         return Some(None);
     };
@@ -240,14 +238,10 @@ pub(crate) fn with_next(best: Option<Moment>, next: Option<Moment>) -> Option<Mo
 }
 
 /// The sooner of a moment and of the first one after another at which an activity may be attempted; none where it isn't known.
-fn next_due(
-    best: Option<Moment>,
-    tasks: &Calendar<OpenActivity>,
-    at: Moment,
-) -> Option<Option<Moment>>
-    ensures { IfSome result (λ o. (b : Book) → IsCalendar date_of_task tasks.now (tasks_at b) → o ≡ rule.soonest at best (waiting b)) }
+fn next_due(best: Option<Moment>, ready: &TimeSlots, at: Moment) -> Option<Option<Moment>>
+    ensures { IfSome result (λ o. (b : Book) → HasSlots date_of_task ready.now (tasks_at b) → o ≡ rule.soonest at best (waiting b)) }
 {
-    let Some(next) = next_slot(tasks, at) else {
+    let Some(next) = next_slot(ready, at) else {
         return None;
     };
     Some(with_next(best, next))
@@ -262,28 +256,23 @@ pub(crate) fn moment_of(first: Option<Due>) -> Option<Moment>
     }
 }
 
-/// What a book waits for at a moment whose first due timer is this one, of its open activities those that may not be attempted before
-/// another moment; none where there is no memory.
-pub(crate) fn outlook_over(
-    alloc: Global,
-    first: Option<Due>,
-    tasks: &Calendar<OpenActivity>,
-    open_runs: u64,
-    since: u64,
-    at: Moment,
-) -> Option<BookWaits>
-    ensures { IfSome result (λ v. (b : Book) → first ≡ rule.first_timer b → open_runs ≡ count_open b
-        → IsCalendar date_of_task tasks.now (tasks_at b) → v ≡ rule.outlook_of since at b) }
+/// What there is to do at a moment, of its open activities those that may not be attempted before another one; none where there is no
+/// memory.
+pub(crate) fn outlook(alloc: Global, seats: &OpenSeats, since: u64, at: Moment) -> Option<BookWaits>
+    ensures { IfSome result (λ v. (b : Book) → KnowsOpen seats.now (λ n. nth b.runs n) → v ≡ rule.outlook_of since at b) }
 {
-    let Some(due) = next_due(moment_of(first), tasks, at) else {
+    let Some(first) = first_due(&seats.due, Moment::last()) else {
         return None;
     };
-    let Some(ready) = listed(alloc, tasks, since, at) else {
+    let Some(due) = next_due(moment_of(first), &seats.ready, at) else {
+        return None;
+    };
+    let Some(ready) = listed(alloc, seats, since, at) else {
         return None;
     };
     Some(BookWaits {
         ready,
         due,
-        open_runs,
+        open_runs: seats.count(),
     })
 }

@@ -5,39 +5,19 @@ ghost use Rattle.flow_model.specs.Book.{Book};
 ghost use Rattle.flow_maps.specs.Undoing.{IsUndo, LeadsBack};
 ghost use Rattle.flow_maps.specs.declared.undo.Undo.{Undo as AnUndo};
 
-use crate::signals::SignalTaken;
-use flow_base::book::Timer;
+use crate::seat::Seat;
 use flow_base::number::RunId;
-use flow_base::sequence::Sequence;
 use flow_base::text::Key;
-use flow_view::head::Head;
 use std::alloc::Global;
 
-/// A run as it was before a change.
+/// An open run as it was before a change.
 #[derive(Drop)]
 pub struct RunBefore {
     pub(crate) run: RunId,
-    pub(crate) head: Head,
-    /// Its open timers, if they were known and there was memory for them.
-    pub(crate) timers: Option<Sequence<Timer>>,
-    /// Whether it is open behind the change.
-    pub(crate) is_open: bool,
-    /// How many events it has then.
-    pub(crate) events: u64,
-    /// The signal that it took by the change.
-    pub(crate) signal: SignalTaken,
-}
-
-/// A run that a change began.
-#[derive(Drop)]
-pub struct RunBegun {
-    pub(crate) number: RunId,
-    pub(crate) flow: Key,
-    pub(crate) request: Option<Key>,
-    pub(crate) is_open: bool,
-    pub(crate) events: u64,
-    /// Whether it took no signal by its first turn.
-    pub(crate) is_quiet: bool,
+    /// What is known of its activities went on with it.
+    pub(crate) seat: Seat,
+    /// The request of the signal that it took by the change, if it took one.
+    pub(crate) signal: Option<Key>,
 }
 
 /// What takes one change back.
@@ -45,7 +25,8 @@ pub struct RunBegun {
 pub enum Undo {
     /// A text came.
     Text,
-    Begun(RunBegun),
+    /// A run came, which this request started, or none.
+    Begun(Option<Key>),
     Before(RunBefore),
 }
 

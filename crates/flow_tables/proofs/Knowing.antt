@@ -3,12 +3,13 @@ use Rattle.std.specs.Prelude.{◌≡◌, ◌∷◌, ◌+◌, if◌then◌else◌
 use Rattle.std.proofs.Common.{eqb-true, eq-eqb}
 use Rattle.std.specs.List.{list_any}
 use Rattle.flow_tables.specs.Puts.{is_task_at}
-use Rattle.flow_tables.proofs.Names.{timers_left, inl, inr, effect_of, Bytes, Run, OpenActivity, Turn, Effect, Cmd, Event, Input, Started, Came, Book, nth, is_open, state_of, traces, turn_events, is_other_task, marked, marked_row, with_event, with_run, with_timer, without_tasks, without_timers, event_row, of_run, task_row, timer_row, Tells, after_effect, after_turn, new_run, Tables, OutboxRow, RunRow, State, AllByRecursion, int_eq, Bool, List, Option, false, filter, int_lt, map, pos, true, ℕ, Changes, tables_in, OpenTasks, RowStanding, None, Some, length, ℤ, [], refl, suc, eqb as nat_eq, subst, ◌∙◌, sym, ap, arith, made_turn, true≢false, Stands, stands_what, made_event, made_events, begins, first_row, first_standing, started_timer, HasOnly, ended, stands_by, tasks_gone, timers_gone, made_effect, any_standing, tasks_known, opens_timer, cases_Bool, Decides-int_eq, TimerRow, head_of}
+use Rattle.flow_tables.proofs.Names.{timers_left, inl, inr, effect_of, Bytes, Run, OpenActivity, Turn, Effect, Cmd, Event, Input, Started, Came, Book, nth, is_open, state_of, traces, turn_events, is_other_task, marked, marked_row, with_event, with_run, with_timer, without_tasks, without_timers, event_row, of_run, task_row, timer_row, Tells, after_effect, after_turn, new_run, Tables, OutboxRow, RunRow, State, AllByRecursion, int_eq, Bool, List, Option, false, filter, int_lt, map, pos, true, ℕ, Changes, tables_in, OpenTasks, RowStanding, None, Some, length, ℤ, [], refl, suc, eqb as nat_eq, subst, ◌∙◌, sym, ap, arith, made_turn, true≢false, Stands, stands_what, made_event, made_events, begins, first_row, first_standing, HasOnly, ended, stands_by, tasks_gone, timers_gone, made_effect, any_standing, tasks_known, cases_Bool, Decides-int_eq, TimerRow, head_of}
 use Rattle.std.proofs.lemmas.List.{map-append}
 use Rattle.sqlite_catalog.proofs.ListFacts.{filter_swap}
 use Rattle.std.proofs.lemmas.Option.{slice_get_past}
 use Rattle.flow_base.specs.declared.effect.Effect.TheVariants as effect
-use Rattle.flow_model.specs.Open.{timers_by, timers_after}
+use Rattle.flow_base.specs.declared.book.Timer.{Timer}
+use Rattle.flow_model.specs.Open.{open_timers}
 use Rattle.flow_rows.specs.Changes.{at_run, is_other_timer}
 use Rattle.flow_rows.specs.Told.{opened_by, after_event, after_events}
 use Rattle.flow_rows.proofs.BookTables.{nth_is}
@@ -16,7 +17,7 @@ use Rattle.flow_rows.proofs.Finds as found
 use Rattle.flow_rows.proofs.Undamaged.{timer_rows_of}
 use Rattle.flow_rows.proofs.Behind.{no_rows_yet}
 use Rattle.flow_tables.specs.declared.known.OpenTasks.TheVariants as tasks
-use Rattle.flow_tables.specs.Known.{head_standing}
+use Rattle.flow_tables.specs.Known.{has_some, head_standing}
 use Rattle.flow_tables.proofs.Room.{apart_below}
 
 ---- What one run has
@@ -167,27 +168,14 @@ first_turn_made t b n flow request text turn tells next below =
     (record { mark = first_mark n flow request text (begins turn.input) t below; tasks = none.2; timers = λ _. none.1 })
     ∙ begun_is n turn.at turn.input turn.commands flow request text t
 
----- What a run that was read tells of its rows
-
-no_timer_by : (id : ℕ) (e : Effect) → opens_timer e ≡ false → timers_by [] id e ≡ []
-no_timer_by id (effect.OpensTimer due) none = absurd (true≢false none)
-no_timer_by id _ none = refl
-
-no_timer_more : (e : Event) (es : List Event) (v : Bool) → opens_timer (effect_of e.what) ≡ v → (started_timer es ≡ false → timers_after [] es ≡ [])
-    → (if v then true else started_timer es) ≡ false → timers_after [] (e ∷ es) ≡ []
-no_timer_more e es true is more none = absurd (true≢false none)
-no_timer_more e es false is more none = ap (λ ts. timers_after ts es) (no_timer_by e.id (effect_of e.what) is) ∙ more none
-
-no_timer : (es : List Event) → started_timer es ≡ false → timers_after [] es ≡ []
-no_timer [] none = refl
-no_timer (e ∷ es) none = no_timer_more e es (opens_timer (effect_of e.what)) refl (no_timer es) none
+---- What is known of a run tells this of its rows
 
 tasks_only : (run : ℤ) (ts : List OpenActivity) → HasOnly (tasks_known ts) (map (task_row run) ts)
 tasks_only run [] = refl
 tasks_only run (x ∷ []) = let same : int_eq (pos x.event) (pos x.event) ≡ true = (Decides-int_eq (pos x.event) (pos x.event)).1 refl in (rw same refl, rw same refl)
 tasks_only run (x ∷ y ∷ ts) = tt
 
-pub no_timer_rows : (t : Tables) (b : Book) (n : ℕ) (r : Run) → Tells t b → nth b.runs n ≡ Some r → timers_left r.history ≡ [] → t.timers (pos n) ≡ []
+no_timer_rows : (t : Tables) (b : Book) (n : ℕ) (r : Run) → Tells t b → nth b.runs n ≡ Some r → timers_left r.history ≡ [] → t.timers (pos n) ≡ []
 no_timer_rows t b n r tells there none = ap (λ (u : Tables). u.timers (pos n)) tells.same ∙ ap (λ o. of_run o (timer_rows_of (pos n))) there ∙ ap (map (timer_row (pos n))) none
 
 pub head_stands : (t : Tables) (b : Book) (n : ℕ) (r : Run) (v : Bool) → Tells t b → nth b.runs n ≡ Some r → (v ≡ false → t.timers (pos n) ≡ []) → Stands (pos n) (head_standing (head_of r) v) t
@@ -197,8 +185,13 @@ head_stands t b n r v tells there none = record {
   timers = none;
 }
 
-pub started_none : (t : Tables) (b : Book) (n : ℕ) (r : Run) → Tells t b → nth b.runs n ≡ Some r → started_timer r.history ≡ false → t.timers (pos n) ≡ []
-started_none t b n r tells there none = no_timer_rows t b n r tells there (elim (cases_Bool (is_open (state_of r.history))) [
-  | inl opened ↦ rw opened (no_timer r.history none)
-  | inr closed ↦ rw closed refl
-])
+-- a run without timers has no rows of them
+none_left : (h : List Event) → open_timers h ≡ [] → timers_left h ≡ []
+none_left h none = elim (cases_Bool (is_open (state_of h))) [ inl opened ↦ rw opened none | inr closed ↦ rw closed refl ]
+
+no_timer : (ts : List Timer) → has_some ts ≡ false → ts ≡ []
+no_timer [] h = refl
+no_timer (t ∷ ts) h = absurd (true≢false h)
+
+pub seat_timers : (t : Tables) (b : Book) (n : ℕ) (r : Run) (ts : List Timer) → Tells t b → nth b.runs n ≡ Some r → open_timers r.history ≡ ts → has_some ts ≡ false → t.timers (pos n) ≡ []
+seat_timers t b n r ts tells there same none = no_timer_rows t b n r tells there (none_left r.history (same ∙ no_timer ts none))

@@ -7,10 +7,9 @@ use Rattle.sqlite.specs.Held.{held_code}
 use Rattle.flow_view.specs.declared.fault.ViewFault.TheVariants as fault
 use Rattle.flow_tables.specs.contracts.fault.Refusal as refusal_row
 use Rattle.flow_maps.specs.declared.maps.Maps.{Maps}
-use Rattle.flow_maps.specs.Serving.{Serves, Sees, named, key_if}
+use Rattle.flow_maps.specs.Serving.{Serves}
 use Rattle.flow_maps.specs.Undoing.{GoesBack, Returns}
 use Rattle.flow_tables.specs.Known.{IsKnown}
-use Rattle.flow_tables.specs.Puts.{mark_of}
 use Rattle.flow_rows.specs.Rows.{One}
 use Rattle.flow_rows.specs.Told.{TellsIn}
 use Rattle.flow_sql.specs.Past.{ArePast, HasPast, past_tables}
@@ -96,19 +95,11 @@ is_sure g t = IsSure (IsOurs (state g t.opened)) (state g t.held) t.refused
 abbrev pub IsAware : State → Option Refusal → RowFacts → Type 0
 IsAware s refused known = refused ≡ None → s.in_transaction ≡ true → IsKnown known (tables_in s.now)
 
--- the request of a run, by its row
-abbrev pub row_request : RunRow → Option Bytes
-row_request r = named r.req
-
--- and its flow, where it is marked as open
-abbrev pub row_open : RunRow → Option Bytes
-row_open r = key_if (mark_of r) r.flow
-
--- What is known by keys is of some book from which it is known how to go back to the one that was kept; and of the one that the
--- transaction shows, with the run that was read last.
+-- What is known is of some book from which it is known how to go back to the one that was kept; and of the one that the transaction
+-- shows.
 pub record IsServing (m : Maps) (s : State) (refused : Option Refusal) : Type 0 where
   pub last : IsTrue s.is_open → Returns m (book_of s.committed)
-  pub shown : refused ≡ None → s.in_transaction ≡ true → Serves m (book_of s.now) × Sees m (book_of s.now) × GoesBack m (book_of s.committed) (book_of s.now)
+  pub shown : refused ≡ None → s.in_transaction ≡ true → Serves m (book_of s.now) × GoesBack m (book_of s.committed) (book_of s.now)
 
 -- the store stopped what was done since the first
 abbrev pub Refuses : {S : Type 0} → Ghosts S → Stored S → Stored S → Type 0

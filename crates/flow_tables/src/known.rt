@@ -2,15 +2,17 @@
 //! nothing.
 
 ghost use Rattle.std.specs.Prelude.{◌≡◌};
-ghost use Rattle.flow_base.specs.Effects as effects;
+ghost use Rattle.flow_maps.specs.Serving.{Serves};
 ghost use Rattle.flow_tables.specs.Known as words;
+ghost use Rattle.flow_tables.specs.Names.{Book, Tables, Tells};
+ghost use Rattle.flow_tables.specs.Puts.{texts_counted};
 
-use flow_base::book::{OpenActivity, Run};
+use flow_base::book::{Change, OpenActivity, Timer};
 use flow_base::effect::{Effect, effect_of};
-use flow_base::event::{Event, Input, What};
+use flow_base::event::{Input, What};
 use flow_base::number::{EventId, RunId};
-use flow_view::head::Head;
-use flow_view::history::is_open;
+use flow_maps::maps::Maps;
+use flow_maps::seat::Seat;
 
 /// Which rows a run may have in the outbox.
 #[derive(Clone, Copy, Debug, PartialEq, Eq)]
@@ -33,7 +35,7 @@ pub struct RowStanding {
     pub has_timers: bool,
 }
 
-/// A run that was read, and that nothing has changed since.
+/// A run of which all this is known.
 #[derive(Clone, Copy, Debug, PartialEq, Eq)]
 pub struct KnownRun {
     pub number: RunId,
@@ -42,7 +44,7 @@ pub struct KnownRun {
     pub standing: RowStanding,
 }
 
-/// What a transaction has read, and not changed since.
+/// What is known where a change is made.
 #[derive(Clone, Copy, Debug, PartialEq, Eq)]
 pub struct RowFacts {
     pub run: Option<KnownRun>,
@@ -154,53 +156,59 @@ fn tasks_known(tasks: &[OpenActivity]) -> OpenTasks
     }
 }
 
-fn opens_timer(what: &What) -> bool
-    ensures { result ≡ words.opens_timer (effects.effect_of what.now) }
+fn has_some(timers: &[Timer]) -> bool
+    ensures { result ≡ words.has_some timers.now }
 {
-    matches!(effect_of(what), Effect::OpensTimer(_))
-}
-
-/// Whether one of the events opens a timer.
-fn started_timer(events: &[Event]) -> bool
-    ensures { result ≡ words.started_timer events.now }
-{
-    for event in events {
-        if opens_timer(&event.what) {
-            return true;
-        }
+    match timers {
+        [] => false,
+        _ => true,
     }
-    false
 }
 
-/// What a run that was read tells of its rows.
-pub fn run_known(number: RunId, run: &Run) -> KnownRun
-    ensures { result ≡ words.run_known number run.now }
+/// What is known of an open run tells this of its rows.
+pub fn seat_known(number: RunId, seat: &Seat) -> KnownRun
+    ensures { result ≡ words.seat_known number seat.now }
 {
-    let events = run.history.as_slice();
     KnownRun {
         number,
-        count: events.len() as u64,
+        count: seat.head.events,
         standing: RowStanding {
-            is_open: is_open(events),
+            is_open: seat.head.is_open,
             is_marked: false,
-            tasks: tasks_known(run.tasks.as_slice()),
-            has_timers: started_timer(events),
+            tasks: tasks_known(seat.head.tasks.as_slice()),
+            has_timers: has_some(seat.timers.as_slice()),
         },
     }
 }
 
-/// What the head of a run tells of its rows, which may have timers or not.
-pub fn head_known(number: RunId, head: &Head, has_timers: bool) -> KnownRun
-    ensures { result ≡ words.head_known number head.now has_timers }
+/// The same of the run of a number, if it is known.
+fn run_known(maps: &Maps, number: RunId) -> Option<KnownRun>
+    ensures { (b : Book) → (t : Tables) → Serves maps.now b → Tells t b → words.OfRun result t }
 {
-    KnownRun {
-        number,
-        count: head.events,
-        standing: RowStanding {
-            is_open: head.is_open,
-            is_marked: false,
-            tasks: tasks_known(head.tasks.as_slice()),
-            has_timers,
-        },
+    match maps.seat(number) {
+        Some(seat) => Some(seat_known(number, seat)),
+        None => None,
+    }
+}
+
+/// The same of the run that a change is of.
+fn changed_known(maps: &Maps, change: &Change) -> Option<KnownRun>
+    ensures { (b : Book) → (t : Tables) → Serves maps.now b → Tells t b → words.OfRun result t }
+{
+    match change {
+        Change::AddTurn(run, _) => run_known(maps, *run),
+        Change::SetAttempt(run, _, _, _) => run_known(maps, *run),
+        _ => None,
+    }
+}
+
+/// What is known of the rows that a change is of, where so many texts are known.
+pub(crate) fn row_facts(maps: &Maps, texts: Option<u64>, change: &Change) -> RowFacts
+    ensures { (b : Book) → (t : Tables) → Serves maps.now b → Tells t b → words.OfCount texts (texts_counted t) → words.IsKnown result t }
+{
+    RowFacts {
+        run: changed_known(maps, change),
+        texts,
+        runs: maps.run_count(),
     }
 }

@@ -1,5 +1,5 @@
-use Rattle.std.proofs.Common.{rules, ◌≡◌, ◌+◌, ◌∙◌, ap, length, filter, true, false}
-use Rattle.flow_maps.specs.Agenda.{is_open_run}
+use Rattle.std.specs.Prelude.{◌≡◌, ◌+◌}
+use Rattle.flow_maps.proofs.Names.{rules, ◌∙◌, ap, length, filter, true, false, is_open_run}
 use Rattle.flow_maps.proofs.Gathered.{open_more, closed_more}
 use Rattle.flow_maps.proofs.gathering.list_open.Goals as goal
 

@@ -1,5 +1,5 @@
-use Rattle.std.proofs.Common.{◌≡◌, ◌+◌, ◌++◌, ◌∷◌, drop, filter, suc, sym, ap, ◌∙◌, drop-cons, arith}
-use Rattle.flow_maps.specs.Outlooks.{is_within, waiting_in}
+use Rattle.std.specs.Prelude.{◌≡◌, ◌+◌, ◌++◌, ◌∷◌}
+use Rattle.flow_maps.proofs.Names.{drop, filter, suc, sym, ap, ◌∙◌, drop-cons, arith, is_within, waiting_in}
 use Rattle.flow_maps.proofs.Listing.{one_more}
 use Rattle.flow_maps.proofs.outlook.add_tasks.Goals as goal
 

@@ -1,5 +1,5 @@
-use Rattle.std.proofs.Common.{◌≡◌, ◌++◌, drop, filter}
-use Rattle.flow_maps.specs.Outlooks.{is_within, waiting_in}
+use Rattle.std.specs.Prelude.{◌≡◌, ◌++◌}
+use Rattle.flow_maps.proofs.Names.{drop, filter, is_within, waiting_in}
 use Rattle.flow_maps.proofs.outlook.add_tasks.Given as goal
 
 abbrev pub invariant-loop-task : goal.invariant-loop-task

@@ -1,4 +1,5 @@
-use Rattle.std.proofs.Common.{◌≡◌, arith, rules}
+use Rattle.std.specs.Prelude.{◌≡◌}
+use Rattle.flow_maps.proofs.Names.{arith, rules}
 use Rattle.flow_maps.proofs.Listing.{is_forward}
 use Rattle.flow_maps.proofs.outlook.runs_within.Goals as goal
 

@@ -1,5 +1,5 @@
-use Rattle.std.proofs.Common.{◌≡◌, drop}
-use Rattle.flow_maps.specs.Outlooks.{soonest, waiting_in}
+use Rattle.std.specs.Prelude.{◌≡◌}
+use Rattle.flow_maps.proofs.Names.{drop, soonest, waiting_in}
 use Rattle.flow_maps.proofs.outlook.soonest.Given as goal
 
 abbrev pub invariant-loop-task : goal.invariant-loop-task

@@ -1,6 +1,5 @@
-use Rattle.std.proofs.Common.{◌≡◌, drop}
-use Rattle.flow_base.specs.Effects.{effect_of_input}
-use Rattle.flow_maps.specs.Turned.{is_open_by, is_open_after}
+use Rattle.std.specs.Prelude.{◌≡◌}
+use Rattle.flow_maps.proofs.Names.{drop, effect_of_input, is_open_by, is_open_after}
 use Rattle.flow_maps.proofs.turned.is_open_behind.Given as goal
 
 abbrev pub invariant-loop-command : goal.invariant-loop-command

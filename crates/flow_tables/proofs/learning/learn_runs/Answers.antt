@@ -1,15 +1,13 @@
-use Rattle.std.proofs.Common.{rules, ◌≡◌, ◌+◌, None, Some, refl, take}
+use Rattle.std.proofs.Common.{rules, ◌≡◌, ◌+◌, None, Some, [], refl, take}
 use Rattle.flow_model.specs.Book.{nth}
 use Rattle.flow_tables.proofs.Calls.{looked_by, looked_on, looked_so, no_look, not_looked}
-use Rattle.flow_tables.proofs.Serving.{none_serve}
 use Rattle.flow_tables.proofs.RunsRead.{serves_all, serves_more}
 use Rattle.flow_tables.proofs.learning.learn_runs.Goals as goal
 
 pub loop-count-init : goal.loop-count-init
 loop-count-init g c = record {
   looked = no_look g.V.Runs.shows c.args.view.now tt;
-  serves = λ _. none_serve c.none-maps.result (g.V.Runs.shows.book c.args.view.now).texts c.none-maps.ensures.keys c.none-maps.ensures.awaits c.none-maps.ensures.signals c.none-maps.ensures.records;
-  sees = c.none-maps.ensures.sees;
+  serves = λ _. c.none-maps.ensures.serves (record { texts = (g.V.Runs.shows.book c.args.view.now).texts; runs = [] }) refl;
 }
 
 pub loop-count-preserved : goal.loop-count-preserved
@@ -23,8 +21,7 @@ loop-count-preserved g c =
       looked = looked_on shows c.args.view.now c.loop-count.view c.recall.new.self tt _ was.looked (looked_by shows c.loop-count.view c.recall.new.self _ tt _ c.in-Ok-Some.ensures);
       serves = λ sure.
           let before = c.recall.ensures.sure sure in
-          serves_more c.add_whole.new.maps first mid c.loop-count.count c.in-Ok-Some.run' (was.looked.reads before) (there sure) (c.add_whole.ensures.serves (record { texts = first.texts; runs = take c.loop-count.count first.runs }) (was.serves before));
-      sees = c.add_whole.ensures.sees was.sees;
+          serves_more c.add_whole.new.self first mid c.loop-count.count c.in-Ok-Some.run' (was.looked.reads before) (there sure) (c.add_whole.ensures.serves (record { texts = first.texts; runs = take c.loop-count.count first.runs }) (was.serves before));
     }
 
 pub returns-in-Ok-None-clause-serves : goal.returns-in-Ok-None-clause-serves
@@ -46,7 +43,7 @@ returns-in-Err-clause-looked g c =
     looked_on shows c.args.view.now c.loop-count.view c.recall.new.self tt _ c.loop-count.invariant.looked (not_looked shows c.loop-count.view c.recall.new.self c.in-Err.fault _ c.in-Err.ensures)
 
 pub returns-clause-serves : goal.returns-clause-serves
-returns-clause-serves g c = λ sure. c.unknown.ensures.serves (g.V.Runs.shows.book c.args.view.now)
+returns-clause-serves g c = λ sure. c.unknown.ensures (g.V.Runs.shows.book c.args.view.now)
 
 pub returns-clause-looked : goal.returns-clause-looked
 returns-clause-looked g c = looked_so g.V.Runs.shows c.args.view.now c.loop-count.view c.loop-count.view tt c.unknown.result refl c.loop-count.invariant.looked

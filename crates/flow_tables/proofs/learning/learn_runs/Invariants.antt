@@ -1,6 +1,5 @@
 use Rattle.std.proofs.Common.{take}
-use Rattle.flow_model.specs.Book.{Book}
-use Rattle.flow_maps.specs.Serving.{Serves, Sees}
+use Rattle.flow_maps.specs.Serving.{Serves}
 use Rattle.flow_tables.specs.Calls.{LooksOn}
 use Rattle.flow_tables.proofs.learning.learn_runs.Given as goal
 
@@ -8,5 +7,4 @@ abbrev pub invariant-loop-count : goal.invariant-loop-count
 invariant-loop-count g l = record {
   looked : LooksOn g.V.Runs.shows l.fn.view l.view;
   serves : g.V.Runs.shows.is_sure l.view → Serves l.maps (record { texts = (g.V.Runs.shows.book l.fn.view).texts; runs = take l.count (g.V.Runs.shows.book l.fn.view).runs });
-  sees : (b : Book) → Sees l.maps b;
 }

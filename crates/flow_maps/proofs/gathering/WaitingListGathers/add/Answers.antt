@@ -1,9 +1,5 @@
-use Rattle.std.proofs.Common.{rules, ◌≡◌, ◌+◌, ◌++◌, ◌∷◌, List, filter, length, refl}
-use Rattle.flow_base.specs.declared.book.Run.{Run}
-use Rattle.flow_model.specs.Book.{least_of}
-use Rattle.flow_model.specs.Open.{timers_left}
-use Rattle.flow_maps.specs.Agenda.{is_open_run}
-use Rattle.flow_maps.specs.Outlooks.{is_within, soonest, waiting_in}
+use Rattle.std.specs.Prelude.{◌≡◌, ◌+◌, ◌++◌, ◌∷◌}
+use Rattle.flow_maps.proofs.Names.{rules, List, filter, length, refl, Run, least_of, timers_left, is_open_run, is_within, soonest, waiting_in}
 use Rattle.flow_maps.proofs.Gathered.{listing_goes_on}
 use Rattle.flow_maps.proofs.gathering.WaitingListGathers.add.Goals as goal
 

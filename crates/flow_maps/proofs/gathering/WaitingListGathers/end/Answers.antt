@@ -1,5 +1,5 @@
-use Rattle.std.proofs.Common.{rules, ◌≡◌, ◌∙◌, ap, length}
-use Rattle.flow_maps.specs.Outlooks.{with_next}
+use Rattle.std.specs.Prelude.{◌≡◌}
+use Rattle.flow_maps.proofs.Names.{rules, ◌∙◌, ap, length, with_next}
 use Rattle.flow_maps.proofs.Gathered.{listing_ends}
 use Rattle.flow_maps.proofs.gathering.WaitingListGathers.end.Goals as goal
 

@@ -6,3 +6,6 @@ returns-clause-returns c b = lost_returns (record c.args.self.now { journal = c.
 
 pub returns-clause-goes_back : goal.returns-clause-goes_back
 returns-clause-goes_back c b d = lost_leads c.lose.new.self c.lose.ensures b d
+
+pub returns-clause-serves : goal.returns-clause-serves
+returns-clause-serves c b h = record { facts = h.facts; texts = h.texts }

@@ -1,12 +1,13 @@
-use Rattle.std.proofs.Common.{◌≡◌, List, Option, map, ◌∙◌}
-use Rattle.flow_base.specs.Syntax.{Bytes}
-use Rattle.flow_model.specs.Book.{Book, open_run}
-use Rattle.flow_maps.specs.Keys.{Lists, key_found}
-use Rattle.flow_maps.specs.Serving.{Serves, open_key}
-use Rattle.flow_maps.proofs.Serving.{some_weaker, open_found}
+use Rattle.std.specs.Prelude.{◌≡◌}
+use Rattle.flow_maps.proofs.Names.{Option, ℕ, Book, Serves, Bytes, nth, open_run, IsFound, IsIndex, name_of, open_key}
+use Rattle.flow_maps.proofs.Serving.{some_weaker}
+use Rattle.flow_maps.proofs.Undone.{known_facts}
+use Rattle.flow_maps.proofs.Serving.{open_found}
 use Rattle.flow_maps.proofs.maps.Maps.open_run.Goals as goal
 
-pub returns : goal.returns
-returns c =
-    some_weaker c.find.result (λ o. (ks : List (Option Bytes)) → Lists c.args.self.now.flows ks → o ≡ key_found c.args.flow.now ks)
-    (λ o. (b : Book) → Serves c.args.self.now b → o ≡ open_run b c.args.flow.now) (λ o known b h. known (map open_key b.runs) h.flows ∙ open_found c.args.flow.now b) c.find.ensures
+pub returns-in-Some : goal.returns-in-Some
+returns-in-Some c =
+    let m = c.args.self.now in
+    some_weaker c.find.result (λ o. (f : ℕ → Option Bytes) → IsIndex c.in-Some.facts.runs.seats.flows f → IsFound o c.args.flow.now f)
+    (λ o. (b : Book) → Serves m b → o ≡ open_run b c.args.flow.now)
+    (λ o is b h. let known = known_facts m.facts c.in-Some.facts b c.in-Some.is h.facts in open_found c.args.flow.now b o (is (λ n. name_of open_key (nth b.runs n)) known.runs.seats.flows)) c.find.ensures

@@ -1,8 +1,5 @@
-use Rattle.std.proofs.Common.{◌≡◌, [], rules, subst, sym}
-use Rattle.std.proofs.lemmas.List.{nil_from_length}
-use Rattle.flow_model.specs.Book.{Book}
-use Rattle.flow_maps.specs.Serving.{Serves}
-use Rattle.flow_maps.specs.Undoing.{Leads}
+use Rattle.std.specs.Prelude.{◌≡◌}
+use Rattle.flow_maps.proofs.Names.{[], rules, subst, sym, nil_from_length, Book, Serves, Leads}
 use Rattle.flow_maps.proofs.Undone.{leads_last}
 use Rattle.flow_maps.proofs.maps.Maps.take_all_back.Goals as goal
 

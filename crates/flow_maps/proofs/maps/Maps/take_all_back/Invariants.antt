@@ -1,7 +1,4 @@
-use Rattle.std.proofs.Common.{vec_len}
-use Rattle.flow_model.specs.Book.{Book}
-use Rattle.flow_maps.specs.Serving.{Serves}
-use Rattle.flow_maps.specs.Undoing.{Leads}
+use Rattle.flow_maps.proofs.Names.{vec_len, Book, Serves, Leads}
 use Rattle.flow_maps.proofs.maps.Maps.take_all_back.Given as goal
 
 abbrev pub invariant-loop-undo : goal.invariant-loop-undo

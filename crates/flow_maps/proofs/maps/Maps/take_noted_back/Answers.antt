@@ -1,8 +1,4 @@
-use Rattle.std.specs.Prelude.{MatchOption}
-use Rattle.std.proofs.Common.{subst}
-use Rattle.flow_model.specs.Book.{Book}
-use Rattle.flow_maps.specs.Serving.{Serves}
-use Rattle.flow_maps.specs.Undoing.{Leads}
+use Rattle.flow_maps.proofs.Names.{MatchOption, subst, Book, Serves, Leads}
 use Rattle.flow_maps.proofs.maps.Maps.take_noted_back.Goals as goal
 
 pub returns-in-Some : goal.returns-in-Some

@@ -1,5 +1,5 @@
-use Rattle.std.proofs.Common.{◌≡◌, ◌∙◌, is_some, subst, sym, true}
-use Rattle.flow_maps.specs.Names.{at_name, both}
+use Rattle.std.specs.Prelude.{◌≡◌}
+use Rattle.flow_maps.proofs.Names.{◌∙◌, is_some, subst, sym, true, at_name, both}
 use Rattle.flow_maps.proofs.Signalled.{inserted, none_more}
 use Rattle.flow_maps.proofs.signals.SignalEvents.add.Goals as goal
 

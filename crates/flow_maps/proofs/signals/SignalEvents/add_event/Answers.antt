@@ -1,5 +1,5 @@
-use Rattle.std.proofs.Common.{◌≡◌, None, Some, rules}
-use Rattle.flow_maps.specs.Signals.{at_request, signal_of}
+use Rattle.std.specs.Prelude.{◌≡◌}
+use Rattle.flow_maps.proofs.Names.{None, Some, rules, at_request, signal_of}
 use Rattle.flow_maps.proofs.Signalled.{with_event, without_event}
 use Rattle.flow_maps.proofs.signals.SignalEvents.add_event.Goals as goal
 

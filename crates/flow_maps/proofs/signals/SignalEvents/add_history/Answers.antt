@@ -1,5 +1,5 @@
-use Rattle.std.proofs.Common.{rules, ◌≡◌, true}
-use Rattle.flow_maps.specs.Signals.{at_request}
+use Rattle.std.specs.Prelude.{◌≡◌}
+use Rattle.flow_maps.proofs.Names.{rules, true, at_request}
 use Rattle.flow_maps.proofs.Signalled.{history_behind, history_begins}
 use Rattle.flow_maps.proofs.signals.SignalEvents.add_history.Goals as goal
 

@@ -1,6 +1,5 @@
-use Rattle.std.proofs.Common.{◌≡◌, take}
-use Rattle.flow_base.specs.Syntax.{Bytes}
-use Rattle.flow_maps.specs.Signals.{at_request, with_history}
+use Rattle.std.specs.Prelude.{◌≡◌}
+use Rattle.flow_maps.proofs.Names.{take, Bytes, at_request, with_history}
 use Rattle.flow_maps.proofs.signals.SignalEvents.add_history.Given as goal
 
 -- behind what was there the signals of the events so far

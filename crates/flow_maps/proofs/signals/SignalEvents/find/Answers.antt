@@ -1,5 +1,5 @@
-use Rattle.std.proofs.Common.{rules, None, Some, ◌≡◌, ◌∙◌}
-use Rattle.flow_maps.specs.Signals.{at_request}
+use Rattle.std.specs.Prelude.{◌≡◌}
+use Rattle.flow_maps.proofs.Names.{rules, None, Some, ◌∙◌, at_request}
 use Rattle.flow_maps.proofs.signals.SignalEvents.find.Goals as goal
 
 pub returns-in_default-get : goal.returns-in_default-get

@@ -1,5 +1,5 @@
-use Rattle.std.proofs.Common.{◌+◌, ◌≡◌, ◌∙◌, None, ap, rules, subst, sym}
-use Rattle.flow_maps.specs.Names.{at_name, both}
+use Rattle.std.specs.Prelude.{◌+◌, ◌≡◌}
+use Rattle.flow_maps.proofs.Names.{◌∙◌, None, ap, rules, subst, sym, at_name, both}
 use Rattle.flow_maps.proofs.Signalled.{inserted, is_nothing}
 use Rattle.flow_maps.proofs.signals.SignalEvents.take.Goals as goal
 

@@ -1,6 +1,5 @@
-use Rattle.std.proofs.Common.{◌≡◌, Some, rules}
-use Rattle.std.specs.BTreeMap.{get}
-use Rattle.std.specs.Ordering.{nat_cmp}
+use Rattle.std.specs.Prelude.{◌≡◌}
+use Rattle.flow_maps.proofs.Names.{Some, rules, get, nat_cmp}
 use Rattle.flow_maps.proofs.Staying.{text_found}
 use Rattle.flow_maps.proofs.texts.TextBodies.find.Goals as goal
 

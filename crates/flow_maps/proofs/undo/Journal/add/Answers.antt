@@ -1,6 +1,4 @@
-use Rattle.std.proofs.Common.{subst, sym}
-use Rattle.std.specs.Prelude.{IfSome}
-use Rattle.flow_maps.specs.Undoing.{IsUndo, Leads}
+use Rattle.flow_maps.proofs.Names.{subst, sym, IfSome, IsUndo, Leads}
 use Rattle.flow_maps.proofs.Undone.{known_steps, leads_more, lost_leads}
 use Rattle.flow_maps.proofs.undo.Journal.add.Goals as goal
 

@@ -1,6 +1,5 @@
-use Rattle.std.proofs.Common.{◌≡◌, [], rules, subst, sym}
-use Rattle.std.specs.Prelude.{MatchOption}
-use Rattle.std.proofs.lemmas.List.{nil_from_length}
+use Rattle.std.specs.Prelude.{◌≡◌}
+use Rattle.flow_maps.proofs.Names.{[], rules, subst, sym, MatchOption, nil_from_length}
 use Rattle.flow_maps.proofs.undo.Journal.is_blank.Goals as goal
 
 pub returns-in-Some : goal.returns-in-Some

@@ -1,5 +1,4 @@
-use Rattle.std.proofs.Common.{refl, subst, sym}
-use Rattle.flow_maps.specs.Undoing.{Leads}
+use Rattle.flow_maps.proofs.Names.{refl, subst, sym, Leads}
 use Rattle.flow_maps.proofs.undo.Journal.new.Goals as goal
 
 pub returns : goal.returns

@@ -1,7 +1,0 @@
-use Rattle.std.proofs.Common.{◌≡◌, ◌&&◌, not, drop}
-use Rattle.std.specs.BTreeSet.{contains}
-use Rattle.flow_maps.specs.Calendars.{Slot, slot_cmp, has_slot}
-use Rattle.flow_maps.proofs.calendar.remove_all.Given as goal
-
-abbrev pub invariant-loop-thing : goal.invariant-loop-thing
-invariant-loop-thing g l = (q : Slot) → (contains slot_cmp l.slots q && not (has_slot g.T.Dated.date l.run (drop l.thing-index l.things) q)) ≡ (contains slot_cmp l.fn.slots q && not (has_slot g.T.Dated.date l.run l.things q))
