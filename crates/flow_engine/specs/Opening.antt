@@ -1,5 +1,5 @@
 -- What the opening of the engine gives, and why it is refused.
-use Rattle.std.specs.Prelude.{◌≡◌, ℕ, false, List, [], IsTrue, Result, IfOk, IfErr, MatchResult}
+use Rattle.std.specs.Prelude.{◌≡◌, ℕ, false, List, [], IsTrue, Result, Ok, Err, IfOk, IfErr, MatchResult}
 use Rattle.sqlite.specs.Tree.{Trees}
 use Rattle.sqlite_trees.specs.declared.store.Store.{Ghosts}
 use Rattle.sqlite.specs.State.{State, HasCleanDisk}
@@ -85,6 +85,11 @@ pub record Opens {S : Type 0} (g : Ghosts S) (conn : Held S) (first : Keeping S)
   pub since : Since (state g conn) (state_of g first.stored)
   pub anew : (first.kept ≡ 0) × (first.halted ≡ false)
   pub found : IsFit g first → IsOpened g (state g conn) first
+
+-- an opening beside which something else is given
+abbrev pub engine_of : {K A E : Type 0} → Result (K × A) E → Result K E
+engine_of (Ok r) = Ok r.0
+engine_of (Err e) = Err e
 
 -- What is said of an opening, whoever watches it.
 pub record OpeningSays {S : Type 0} (g : Ghosts S) (conn : Held S) (result : Result (Keeping S) (Fault × Held S)) : Type 0 where

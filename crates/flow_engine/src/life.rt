@@ -47,7 +47,8 @@ pub fn live<S: Alter>(
 {
     match Engine::open(alloc, conn, settings) {
         Ok(engine) => {
-            let _found = engine.found();
+            let found = engine.found();
+            drop(found);
             match driven(engine, batches) {
                 Ok((last, dones)) => Ok((last, dones)),
                 Err((fault, left)) => Err((fault, left)),

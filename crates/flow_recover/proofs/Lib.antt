@@ -1,4 +1,4 @@
-pub mod Reaching
+pub mod SoFar
 pub mod Refusing
 pub mod Programs
 pub mod Recovering

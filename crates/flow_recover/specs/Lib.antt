@@ -1,3 +1,4 @@
 pub mod Positions
 pub mod Recovering
 pub mod Filling
+pub mod Told

@@ -42,11 +42,6 @@ AreOf u b (x ∷ xs) (q ∷ qs) = IsPosition u b x.0 x.1 q × AreOf u b xs qs
 abbrev pub ArePositions : Meaning → Book → List Position → Type 0
 ArePositions u b qs = AreOf u b (open_from 1 b.runs) qs
 
--- what is found at a run: its position where it is open, else nothing
-abbrev pub IsFound : Meaning → Book → ℕ → Run → Option Position → Type 0
-IsFound u b n r None = is_open (state_of r.history) ≡ false
-IsFound u b n r (Some q) = (is_open (state_of r.history) ≡ true) × IsPosition u b n r q
-
 -- these positions and what was found at the next run
 abbrev pub with_found : List Position → Option Position → List Position
 with_found qs None = qs

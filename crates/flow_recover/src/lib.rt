@@ -6,3 +6,4 @@ mod filling;
 pub mod positions;
 pub mod recover;
 pub mod reopen;
+pub mod replayer;

@@ -64,7 +64,8 @@ pub fn live<S: Alter, B: Room, R: Wait + time::Clock, C: Clock>(
 {
     match Engine::open(alloc, conn, settings) {
         Ok(engine) => {
-            let _found = engine.found();
+            let found = engine.found();
+            drop(found);
             Ok(served(engine, rt, publisher, clock, most))
         }
         Err((fault, conn)) => Err((fault, conn)),

@@ -146,4 +146,10 @@ module _ (l : Layout) (db : Trees) (ours : AreOurs l db) (utf8 : AreUtf8 (tables
     are_readable Read.newest_event = first_holds db params (tree_of_events l) _ _ (event_bare l db) ReadsEvent _ (λ r h. (h.0, (h.1, (h.2, (h.3, (h.4, tt)))))) events_read _ rows
     are_readable Read.all_timers = rows_hold db params 7 _ _ refl (AreTyped timer_table) _ (timer_reads params) (columns (schema_of l) db (laid l db ours) 4 timer_table (timer_there l)) _ rows
     are_readable Read.all_tasks = rows_hold db params 9 _ _ refl (AreTyped task_table) _ (task_reads params) (columns (schema_of l) db (laid l db ours) 5 task_table (task_there l)) _ rows
+    are_readable Read.timers_until = rows_hold db params 7 _ _ refl (AreTyped timer_table) _ (timer_reads params) (columns (schema_of l) db (laid l db ours) 4 timer_table (timer_there l)) _ rows
+    are_readable Read.timers_within = rows_hold db params 7 _ _ refl (AreTyped timer_table) _ (timer_reads params) (columns (schema_of l) db (laid l db ours) 4 timer_table (timer_there l)) _ rows
+    are_readable Read.timers_after = rows_hold db params 7 _ _ refl (AreTyped timer_table) _ (timer_reads params) (columns (schema_of l) db (laid l db ours) 4 timer_table (timer_there l)) _ rows
+    are_readable Read.tasks_until = rows_hold db params 9 _ _ refl (AreTyped task_table) _ (task_reads params) (columns (schema_of l) db (laid l db ours) 5 task_table (task_there l)) _ rows
+    are_readable Read.tasks_within = rows_hold db params 9 _ _ refl (AreTyped task_table) _ (task_reads params) (columns (schema_of l) db (laid l db ours) 5 task_table (task_there l)) _ rows
+    are_readable Read.tasks_after = rows_hold db params 9 _ _ refl (AreTyped task_table) _ (task_reads params) (columns (schema_of l) db (laid l db ours) 5 task_table (task_there l)) _ rows
     are_readable Read.run_tasks = rows_hold db params 9 _ _ refl (AreTyped task_table) _ (task_reads params) (columns (schema_of l) db (laid l db ours) 5 task_table (task_there l)) _ rows

@@ -54,6 +54,12 @@ read_takes Read.event_at = 2
 read_takes Read.newest_event = 1
 read_takes Read.all_timers = 0
 read_takes Read.all_tasks = 0
+read_takes Read.timers_until = 1
+read_takes Read.timers_within = 2
+read_takes Read.timers_after = 1
+read_takes Read.tasks_until = 1
+read_takes Read.tasks_within = 2
+read_takes Read.tasks_after = 1
 read_takes Read.run_tasks = 1
 
 abbrev pub write_takes : Write → ℕ

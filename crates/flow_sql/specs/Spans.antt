@@ -3,6 +3,7 @@ use Rattle.std.specs.Prelude.{◌≡◌, ◌&&◌, int_le}
 use Rattle.flow_sql.specs.Names.{Bool, EventRow, IsAscending, List, RunRow, Tables, events_of, false, filter, int_lt, true, ℤ, []}
 use Rattle.flow_sql.specs.Stored.{LieByRun}
 use Rattle.flow_rows.specs.Damages.{event_place}
+use Rattle.flow_rows.specs.Rising.{of_run}
 
 pub data Span : Type 0 where
   Until : ℤ → Span
@@ -25,6 +26,12 @@ IsBelow a b = int_lt a.num b.num ≡ true
 pub record AreRunsIn (s : Span) (t : Tables) (rows : List RunRow) : Type 0 where
   pub rise : IsAscending IsBelow t.runs
   pub are : rows ≡ filter (is_run_in s) t.runs
+
+-- the rows of what these runs have, and of no others
+pub record AreOfRuns {A : Type 0} (place : A → ℤ × ℤ) (s : Span) (theirs : ℤ → List A) (rows : List A) : Type 0 where
+  pub own : (run : ℤ) → is_in s run ≡ true → of_run place run rows ≡ theirs run
+  pub others : (run : ℤ) → is_in s run ≡ false → of_run place run rows ≡ []
+  pub lie : LieByRun place rows
 
 -- the rows of events of these runs, and of no others
 pub record AreEventsIn (s : Span) (t : Tables) (rows : List EventRow) : Type 0 where

@@ -9,7 +9,7 @@ use flow_base::value::Value;
 use flow_model::answer::Stop;
 use std::alloc::Global;
 
-const A: &str =
+pub const A: &str =
     "workflow a(n: int) { activity c(int, text) -> int; let r = 0; r = call c(n, \"eur\"); return r + 1; }";
 
 /// A command of these tests.

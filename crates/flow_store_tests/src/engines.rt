@@ -1,7 +1,6 @@
 //! What is done with an engine, and what is told of it. One function owns the engine, lends it to what asks it, and closes it.
 use crate::calls::{Call, Calls, Told, Want, add_receipts, command, commands, is_as, named_by};
 use crate::keepers::{batch, code_of};
-use crate::positions::are_waiting;
 use crate::verifying::{Verdict, is_reported};
 use flow_base::command::Command;
 use flow_commit::batch::Batch;
@@ -27,8 +26,6 @@ pub enum Asking {
     Drives(Calls, Calls, &'static [Told]),
     /// Lines are answered, so many commands in a batch, and end with this status. What is written is there behind it.
     Lines(u64, &'static [u8], u8),
-    /// These runs are found open, each waiting on its activity, and are so again when it has answered these calls.
-    Finds(&'static [u64], &'static [Call]),
     /// It answers calls one by one, of which this is told, and then reports this of its store.
     Verifies(&'static [Call], Want, Verdict),
 }
@@ -220,12 +217,6 @@ fn lines_end<S: Alter>(
     }
 }
 
-fn finds<S: Alter>(alloc: Global, engine: &mut Engine<S>, runs: &[u64], calls: &[Call]) -> bool {
-    are_waiting(engine.found(), runs)
-        && answers(alloc, engine, calls, Want::Kept)
-        && are_waiting(engine.found(), runs)
-}
-
 fn is_answered_so<S: Alter>(
     alloc: Global,
     engine: &mut Engine<S>,
@@ -239,7 +230,6 @@ fn is_answered_so<S: Alter>(
         }
         Asking::Drives(calls, more, told) => drives(alloc, engine, calls, more, Want::Told(told)),
         Asking::Lines(size, lines, status) => lines_end(alloc, engine, lines, size, status, out),
-        Asking::Finds(runs, calls) => finds(alloc, engine, runs, calls),
         Asking::Verifies(calls, want, verdict) => {
             answers(alloc, engine, calls, want) && is_reported(engine, verdict)
         }

@@ -1,6 +1,6 @@
 //! What is done with a keeper, and what is told of it. Whoever owns one has a single exit on which it is let go: it is lent to
 //! what asks it, and closed.
-ghost use Rattle.flow_rows.specs.Whole.{shown_book};
+ghost use Rattle.flow_tables.specs.Unread.{shown_book};
 ghost use Rattle.flow_tables.specs.Owned.{state_of, IsFit, Keeps};
 
 use crate::calls::{Call, Calls, Told, Want, add_receipts, command, is_as};
@@ -12,8 +12,9 @@ use flow_commit::batch::Batch;
 use flow_commit::board::Board;
 use flow_commit::keeper::Keeper;
 use flow_commit::outcome::Outcome;
-use flow_rows::book::WholeBook;
+use flow_tables::listener::Nobody;
 use flow_tables::tables::Tables;
+use flow_tables::unread::ToldBook;
 use flow_view::fault::ViewFault;
 use sqlite::{Alter, Connection};
 use std::alloc::Global;
@@ -258,7 +259,7 @@ pub fn closed<S: Alter>(keeper: Keeper<S>) -> Connection<S> {
 fn over_tables<S: Alter>(
     alloc: Global,
     tables: Tables<S>,
-    book: &WholeBook,
+    book: &ToldBook,
     keeping: Keeping,
 ) -> (bool, Connection<S>)
     requires { IsFit S.Store tables → Keeps (state_of S.Store tables) (shown_book book.now) }
@@ -279,8 +280,8 @@ pub fn keeps<S: Alter>(
     conn: Connection<S>,
     keeping: Keeping,
 ) -> (bool, Connection<S>) {
-    match Tables::open(alloc, &Language, conn) {
-        Ok((tables, book)) => over_tables(alloc, tables, &book, keeping),
+    match Tables::open(alloc, &Language, conn, Nobody) {
+        Ok((tables, book, _nobody)) => over_tables(alloc, tables, &book, keeping),
         Err((_, conn)) => (false, conn),
     }
 }

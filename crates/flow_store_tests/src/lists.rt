@@ -58,24 +58,3 @@ fn a_read_that_fails_gives_it_up(rt: HostRuntime) -> Result<(), Fail> {
     assert!(rt; are_so_failing(rt.alloc(), 34, 1, GIVEN_UP));
     Ok(())
 }
-
-const OPEN: &[Act] = &[
-    Act::Asks(Asking::Finds(
-        &[],
-        &[
-            Call::Register,
-            Call::Start("f"),
-            Call::Start("g"),
-            Call::Start("h"),
-            Call::Complete(1),
-        ],
-    )),
-    Act::Asks(Asking::Finds(&[2, 3], &[])),
-];
-
-// The first of three runs has completed, the others wait. An engine over an empty store found none, whatever it answered.
-#[test]
-fn each_open_run_is_found(rt: HostRuntime) -> Result<(), Fail> {
-    assert!(rt; are_so(rt.alloc(), OPEN));
-    Ok(())
-}

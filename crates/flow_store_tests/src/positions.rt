@@ -1,6 +1,6 @@
-//! Positions of small books that are read from a store, with ample memory.
+//! Positions of small books, found as they are read from a store and as more runs are told behind, with ample memory.
 use crate::acts::{Act, are_so};
-use crate::calls::{Call, Want};
+use crate::calls::{A, Call, Want};
 use crate::keepers::{Cut, Keeping};
 use flow_base::book::Run;
 use flow_base::code::Code;
@@ -8,19 +8,20 @@ use flow_base::event::{Event, Input, State, What, Wrong};
 use flow_base::fault::Fault;
 use flow_base::number::{EventId, Moment, RunId, TextNo};
 use flow_base::sequence::Sequence;
-use flow_base::text::Key;
+use flow_base::text::{Key, RawText};
 use flow_base::value::Value;
 use flow_check::language::Language;
 use flow_programs::kept::Kept;
-use flow_recover::positions::{Position, positions};
-use flow_rows::book::WholeBook;
+use flow_recover::positions::Position;
+use flow_recover::replayer::Replayer;
+use flow_tables::listener::Listener;
 use flow_tables::tables::Tables;
 use sqlite::{Alter, Connection};
 use std::alloc::Global;
 use std::string::ToString;
 use std::test::Fail;
 
-/// What is put behind the runs of a book, and seen of its positions.
+/// What is told behind the runs of a book, and seen of its positions.
 #[derive(Clone, Copy)]
 pub enum Case {
     /// Of an empty book there is none.
@@ -29,9 +30,9 @@ pub enum Case {
     Open,
     /// It is where replay leads.
     Replayed,
-    /// Two runs that don't replay are put behind, and the first of them is named.
+    /// Two runs that don't replay are told behind, and the first of them is named.
     Unreplayable,
-    /// A run without a text is put behind, and it is refused.
+    /// A run without a text is told behind, and it is refused.
     NoText,
 }
 
@@ -66,18 +67,33 @@ fn idle_run(alloc: Global, text: u64) -> Option<Run> {
     })
 }
 
-fn is_added(alloc: Global, book: &mut WholeBook, text: u64) -> bool {
-    match idle_run(alloc, text) {
-        Some(run) => book.runs.push(run).is_ok(),
-        None => false,
-    }
+fn hears(alloc: Global, replayer: &mut Replayer<Kept<Language>>, number: u64) -> Option<bool> {
+    let number = RunId::new(number)?;
+    let run = idle_run(alloc, 1)?;
+    let text = RawText::new(alloc, A).ok()?;
+    replayer.hear(alloc, number, &run, &text);
+    Some(true)
 }
 
-fn are_added(alloc: Global, book: &mut WholeBook, case: Case) -> bool {
+fn hears_without(
+    alloc: Global,
+    replayer: &mut Replayer<Kept<Language>>,
+    number: u64,
+) -> Option<bool> {
+    let number = RunId::new(number)?;
+    let run = idle_run(alloc, 2)?;
+    replayer.hear_without(alloc, number, &run);
+    Some(true)
+}
+
+// Whether the runs of the case were told behind the others.
+fn has_heard(alloc: Global, replayer: &mut Replayer<Kept<Language>>, case: Case) -> bool {
     match case {
         Case::Empty | Case::Open | Case::Replayed => true,
-        Case::Unreplayable => is_added(alloc, book, 1) && is_added(alloc, book, 1),
-        Case::NoText => is_added(alloc, book, 2),
+        Case::Unreplayable => {
+            hears(alloc, replayer, 4).is_some() && hears(alloc, replayer, 5).is_some()
+        }
+        Case::NoText => hears_without(alloc, replayer, 4).is_some(),
     }
 }
 
@@ -101,7 +117,7 @@ pub fn is_waiting(position: &Position, run: u64) -> bool {
 }
 
 /// Whether the runs with these numbers wait, each on its activity, and no other has a position.
-pub fn are_waiting(list: &[Position], runs: &[u64]) -> bool {
+fn are_waiting(list: &[Position], runs: &[u64]) -> bool {
     let mut are = list.len() == runs.len();
     for (position, run) in list.iter().zip(runs) {
         are = are && is_waiting(position, *run);
@@ -137,27 +153,27 @@ fn is_refused_so(fault: &Fault, case: Case) -> bool {
     }
 }
 
-fn has(alloc: Global, book: &WholeBook, case: Case) -> bool {
-    let mut programs = Kept::new(alloc, Language);
-    match positions(alloc, &mut programs, book) {
-        Ok(list) => are_so_in(list.as_slice(), case),
-        Err(fault) => is_refused_so(&fault, case),
+fn has(replayer: &Replayer<Kept<Language>>, case: Case) -> bool {
+    match &replayer.refused() {
+        Some(fault) => is_refused_so(fault, case),
+        None => are_so_in(replayer.positions(), case),
     }
 }
 
-fn is_so(alloc: Global, book: WholeBook, case: Case) -> bool {
-    let mut book = book;
-    are_added(alloc, &mut book, case) && has(alloc, &book, case)
+fn is_so(alloc: Global, replayer: Replayer<Kept<Language>>, case: Case) -> bool {
+    let mut replayer = replayer;
+    has_heard(alloc, &mut replayer, case) && has(&replayer, case)
 }
 
-/// Whether the book of a store has these positions, and the store.
+/// Whether the open runs of a store, and those that are told behind, have these positions, and the store.
 pub fn has_positions<S: Alter>(
     alloc: Global,
     conn: Connection<S>,
     case: Case,
 ) -> (bool, Connection<S>) {
-    match Tables::open(alloc, &Language, conn) {
-        Ok((tables, book)) => (is_so(alloc, book, case), tables.into_connection()),
+    let listener = Replayer::new(alloc, Kept::new(alloc, Language));
+    match Tables::open(alloc, &Language, conn, listener) {
+        Ok((tables, _book, replayer)) => (is_so(alloc, replayer, case), tables.into_connection()),
         Err((_, conn)) => (false, conn),
     }
 }

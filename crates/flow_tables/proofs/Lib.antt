@@ -14,6 +14,8 @@ pub mod Reasons
 pub mod Knowing
 pub mod Succession
 pub mod Stretches
+pub mod RowBlocks
+pub mod Hearing
 pub mod Going
 pub mod Opened
 pub mod OpenTables

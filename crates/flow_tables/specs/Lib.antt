@@ -4,6 +4,7 @@ pub use Rattle.flow_sql.specs.States
 pub use Rattle.flow_sql.specs.Coming
 pub use Rattle.flow_sql.specs.Meaning
 pub mod Names
+pub mod Unread
 pub mod Changed
 pub mod Opening
 pub mod Faults

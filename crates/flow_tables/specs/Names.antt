@@ -24,7 +24,7 @@ pub use Rattle.flow_rows.specs.Damages.{first_damage}
 pub use Rattle.flow_rows.specs.Finding.{first, is_run_at, last_number, number_of_run, number_of_text}
 pub use Rattle.flow_rows.specs.Rows.{by_run, event_row, of_run, open_number, run_row, run_rows, task_row, timer_row, timers_left, request_text}
 pub use Rattle.flow_rows.specs.Told.{FitsTables, IsReadable, IsReadableTurn, StartsNone, Tells, after_change, after_effect, after_turn, book_in, new_run}
-pub use Rattle.flow_rows.specs.Whole.{shown_book}
+pub use Rattle.flow_tables.specs.Unread.{shown_book}
 pub use Rattle.flow_rows.specs.declared.rows.StoreRows.{StoreRows}
 pub use Rattle.flow_sql.specs.Layout.{Layout, Fresh, Write, format_sql, no_schema, schema_of, write_sql, Read, read_sql}
 pub use Rattle.flow_sql.specs.Names.{event_id, last, Tables, events_of, tasks_of, timers_of, OutboxRow, RunRow, survives_weaker, Database, Held, state, Kind, Row, Executes, HasCleanDisk, State, Survives, Error, Int, Words, Ghosts, column, ints, AllByRecursion, int_eq, Bool, IfErr, IsTrue, List, MatchResult, Option, codes, false, filter, int_lt, map, pos, true, ℕ}

@@ -1,8 +1,9 @@
 //! What is known of a book that was read whole, and the reads of a book that it may answer.
 ghost use Rattle.std.specs.Prelude.{◌≡◌};
-ghost use Rattle.flow_tables.specs.Names.{Book, IfSome, List, Bytes, shown_book};
+ghost use Rattle.flow_tables.specs.Names.{Book, IfSome, List, Bytes};
 ghost use Rattle.flow_maps.specs.Serving.{Serves};
 ghost use Rattle.flow_maps.specs.Undoing.{GoesBack};
+ghost use Rattle.flow_rows.specs.Whole.{shown_book};
 
 use crate::ask::{BookRead, Of};
 use crate::first_due::{LeastDue, NextMoment, moment_of};

@@ -7,6 +7,7 @@ use flow_base::book::Due;
 use flow_base::number::{EventId, RunId};
 use flow_base::text::RawText;
 use flow_check::language::Language;
+use flow_tables::listener::Nobody;
 use flow_tables::tables::Tables;
 use flow_view::fault::ViewFault;
 use flow_view::head::Head;
@@ -278,8 +279,8 @@ fn all_so(alloc: Global, tables: &mut Memory, steps: &[Step]) -> bool {
 }
 
 fn opened_over(alloc: Global, conn: Connection<MemStore>) -> Option<Memory> {
-    match Tables::open(alloc, &Language, conn) {
-        Ok((tables, _)) => Some(tables),
+    match Tables::open(alloc, &Language, conn, Nobody) {
+        Ok((tables, _book, _nobody)) => Some(tables),
         Err(_) => None,
     }
 }

@@ -7,7 +7,7 @@ use Rattle.flow_engine.proofs.life.live.Goals as goal
 pub returns-in-Ok-driven-clause-lived : goal.returns-in-Ok-driven-clause-lived
 returns-in-Ok-driven-clause-lived g c clean = record {
   first = c.in-Ok.engine;
-  positions = c.found-found.result.now;
+  positions = c.found-found.result;
   is = (clean, c.in-Ok.ensures.opens, c.found-found.ensures.found, c.in-Ok-driven.ensures.runs);
 }
 
@@ -24,7 +24,7 @@ returns-in-Err-driven-clause-early g c clean =
         sym early.1,
         record {
           first = first;
-          positions = c.found-found.result.now;
+          positions = c.found-found.result;
           is = (was, c.in-Ok.ensures.opens, c.found-found.ensures.found, runs_none g.S.Store first);
         },
       ),

@@ -1,8 +1,9 @@
-use Rattle.std.proofs.Common.{rules, ◌≡◌, [], length, refl, ap, subst, ◌∙◌}
+use Rattle.std.proofs.Common.{rules, ◌≡◌, [], List, length, refl, sym, ap, subst, ◌∙◌}
 use Rattle.flow_model.specs.Checked.{is_program_by}
 use Rattle.flow_rows.specs.declared.rows.StoreRows.{StoreRows}
+use Rattle.flow_rows.specs.declared.rows.TextRow.{TextRow}
 use Rattle.flow_rows.specs.Damages.{first_damage}
-use Rattle.flow_rows.specs.Passing.{counted, rows_with}
+use Rattle.flow_rows.specs.Passing.{counted, rows_with, seen_of}
 use Rattle.flow_rows.specs.Rows.{events_of, tasks_of}
 use Rattle.flow_rows.specs.Told.{runs_told}
 use Rattle.flow_rows.proofs.PassedBlocks.{begun, counted_whole, given_all, none_given}
@@ -41,9 +42,12 @@ returns-clause-seen g c = λ none start.
     let es = counted_whole lists c.in_ok-pass.pass.seen count c.as_slice-5.result.now c.in_ok-pass.ensures.none refl ∙ slice in
     let went = c.in_ok-see_block.ensures.passed p [] (begun p lists c.in_ok-pass.pass c.in_ok-pass.ensures) in
     let all = c.in_ok-see_block.ensures.to in
-    let given = given_all p lists c.see_block.new.self events went.0 all g.W.Onlooker.seen c.see_block.new.watch
-    (went.1 (none_given p lists g.W.Onlooker.seen c.in_ok-pass.pass c.args.watch.now c.in_ok-pass.ensures start))
+    let of_texts : lists.texts.now ≡ rows.texts = ap (λ (r : StoreRows). r.texts) same in
+    let begun_so : g.W.Onlooker.seen c.args.watch.now lists.texts.now [] = subst (λ (ts : List TextRow). g.W.Onlooker.seen c.args.watch.now ts []) (sym of_texts) start in
+    let given = given_all p lists c.see_block.new.self events went.0 all (seen_of g.W.Onlooker.seen lists) c.see_block.new.watch
+    (went.1 (none_given p lists (seen_of g.W.Onlooker.seen lists) c.in_ok-pass.pass c.args.watch.now c.in_ok-pass.ensures begun_so))
     (c.finish-found.ensures.clean p events went.0 all none) in
-    subst (g.W.Onlooker.seen c.see_block.new.watch)
+    subst (λ (ts : List TextRow). g.W.Onlooker.seen c.see_block.new.watch ts (runs_told (events_of rows.events) (tasks_of rows.outbox) 1 rows.runs)) of_texts
+    (subst (g.W.Onlooker.seen c.see_block.new.watch lists.texts.now)
     (ap (λ l. runs_told (events_of l) (tasks_of lists.outbox.now) 1 lists.runs.now) es
-    ∙ ap (λ (r : StoreRows). runs_told (events_of r.events) (tasks_of r.outbox) 1 r.runs) same) given
+    ∙ ap (λ (r : StoreRows). runs_told (events_of r.events) (tasks_of r.outbox) 1 r.runs) same) given)

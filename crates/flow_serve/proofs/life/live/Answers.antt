@@ -6,7 +6,7 @@ served-requires-clause-fresh g c = c.in-Ok.ensures.begins.1
 pub returns-in-Ok-clause-lived : goal.returns-in-Ok-clause-lived
 returns-in-Ok-clause-lived g c clean = record {
   first = c.in-Ok.engine;
-  positions = c.found-found.result.now;
+  positions = c.found-found.result;
   hub = c.served.ensures.serves;
   is = (clean, c.in-Ok.ensures.opens, c.found-found.ensures.found, c.served.ensures.serves.runs);
 }

@@ -6,7 +6,7 @@ use Rattle.flow_engine.proofs.engine.Engine.board.Goals as goal
 
 -- the positions that were found are of the opening, which no call changes
 pub invariant_of-self : goal.invariant_of-self
-invariant_of-self g c = found_on g.S.Store c.self.inside.keeper c.board.new.self c.self.inside.found.items c.board.ensures.stayed.follows.0 c.board.ensures.stayed.fit c.self.invariant
+invariant_of-self g c = found_on g.S.Store c.self.inside.keeper c.board.new.self c.self.inside.found c.board.ensures.stayed.follows.0 c.board.ensures.stayed.fit c.self.invariant
 
 -- the keeper says it
 pub returns : goal.returns
