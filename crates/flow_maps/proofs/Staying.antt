@@ -1,5 +1,5 @@
 -- What no change of a book takes back: its texts, and the events of its runs.
-use Rattle.std.proofs.Common.{◌≡◌, ◌+◌, ◌<◌, ◌≤◌, ℕ, zero, suc, Bool, true, false, cond, List, [], ◌∷◌, ◌++◌, length, Option, Some, None, slice_get, refl, sym, ap, subst, ◌∙◌, arith, get_or, inl, inr}
+use Rattle.std.proofs.Common.{◌≡◌, ◌+◌, ◌<◌, ◌≤◌, ℕ, zero, suc, Bool, true, false, cond, List, [], ◌∷◌, ◌++◌, length, Option, Some, None, slice_get, refl, sym, ap, subst, ◌∙◌, arith, get_or, inl, inr, length-append}
 use Rattle.std.specs.Prelude.{IfSome, ◌⊎◌}
 use Rattle.std.specs.BTreeMap.{BTreeMap, get, IsUpperBound}
 use Rattle.std.specs.Ordering.{nat_cmp, is_lt}
@@ -23,7 +23,7 @@ use Rattle.flow_maps.specs.declared.records.Records.{Records}
 use Rattle.flow_maps.specs.declared.texts.TextBodies.{TextBodies}
 use Rattle.flow_maps.specs.KnownCalls.{AreWithout, IsEventAt, KnowsCalls, Place, place_cmp, is_place}
 use Rattle.flow_maps.specs.KnownRecords.{KnowsRecords}
-use Rattle.flow_maps.specs.KnownTexts.{IsText, KnowsTexts}
+use Rattle.flow_maps.specs.KnownTexts.{IsText, IsTextCount, KnowsTexts}
 use Rattle.flow_maps.specs.OfRuns.{is_run}
 use Rattle.flow_maps.specs.Undoing.{IsCut}
 use Rattle.flow_maps.proofs.Headed.{nth_less, nth_more, own_run, other_run, one_more}
@@ -118,6 +118,43 @@ text_less m m' last x b t there greatest out knows n = subst (λ o. IsText o (nt
 pub text_found : (m : TextBodies) (number : ℕ) (k : Bytes) (o : Option Bytes) → get nat_cmp m.known number ≡ Some k → IfSome o (λ t. t ≡ k) → IfSome o (λ t. (b : Book) → KnowsTexts m b → Some t ≡ nth b.texts number)
 text_found m number k None there is = tt
 text_found m number k (Some t) there is = λ b knows. sym (subst (λ o. IsText o (nth b.texts number)) (there ∙ ap Some (sym is)) (knows number))
+
+-- How many there are.
+count_over : (o : Option ℕ) (b c : Book) → c.texts ≡ b.texts → IsTextCount o b → IsTextCount o c
+count_over None b c same h = tt
+count_over (Some n) b c same h = h ∙ ap length (sym same)
+
+pub count_in_turn : (o : Option ℕ) (b : Book) (run : ℕ) (t : Turn) → IsTextCount o b → IsTextCount o (changed b (AddTurn run t))
+count_in_turn o b run t h = count_over o b (changed b (AddTurn run t)) (run_texts b run (with_turn t)) h
+
+pub count_in_attempt : (o : Option ℕ) (b : Book) (run event attempt ready : ℕ) → IsTextCount o b → IsTextCount o (changed b (SetAttempt run event attempt ready))
+count_in_attempt o b run event attempt ready h = count_over o b (changed b (SetAttempt run event attempt ready)) (run_texts b run (with_attempt event attempt ready)) h
+
+pub count_in_text : (o : Option ℕ) (b : Book) (run text : ℕ) → IsTextCount o b → IsTextCount o (changed b (SetText run text))
+count_in_text o b run text h = count_over o b (changed b (SetText run text)) (run_texts b run (with_text text)) h
+
+-- one more, by its number
+pub count_next : (b : Book) (body : Bytes) (o : Option ℕ) → IfSome o (λ n. n ≡ length b.texts + 1) → IsTextCount o (changed b (AddText body))
+count_next b body None h = tt
+count_next b body (Some n) h =
+    let longer : length (b.texts ++ body ∷ []) ≡ length b.texts + 1 = length-append b.texts (body ∷ []) in
+    h ∙ sym longer
+
+-- and one less
+pub count_last : (b : Book) (t : Bytes) (o : Option ℕ) → IsTextCount o (record b { texts = b.texts ++ t ∷ [] }) → IfSome o (λ n. n ≡ length b.texts + 1)
+count_last b t None h = tt
+count_last b t (Some n) h =
+    let longer : length (b.texts ++ t ∷ []) ≡ length b.texts + 1 = length-append b.texts (t ∷ []) in
+    h ∙ longer
+
+pub next_there : (b : Book) (body : Bytes) (o : Option ℕ) → IfSome o (λ n. n ≡ length b.texts + 1) → IfSome o (λ n. nth (changed b (AddText body)).texts n ≡ Some body)
+next_there b body None h = tt
+next_there b body (Some n) h = nth_next b.texts body [] n (let is = h in omega (arith, is))
+
+-- what is counted is so
+pub counted_is : (m : Records) (o : Option ℕ) → m.count ≡ o → IfSome o (λ n. (b : Book) → KnowsRecords m b → n ≡ length b.texts)
+counted_is m None is = tt
+counted_is m (Some n) is = λ b h. subst (λ q. IsTextCount q b) is h.count
 
 ---- Events
 
@@ -322,7 +359,4 @@ head_run (Some r) h is = (r, refl, (let same = is in cc))
 
 -- a run that was read behind the others
 pub records_more : (m : Records) (b : Book) (r : Run) → KnowsRecords m b → KnowsRecords m (record b { runs = b.runs ++ r ∷ [] })
-records_more m b r h = record { heads = one_more m.heads b r h.heads; calls = calls_more m.calls b r h.calls; texts = h.texts }
-
-pub text_added : (m : Records) (b : Book) (body : Bytes) → KnowsRecords m b → KnowsRecords m (changed b (AddText body))
-text_added m b body h = record { heads = h.heads; calls = h.calls; texts = texts_stay m.texts b (AddText body) h.texts }
+records_more m b r h = record { heads = one_more m.heads b r h.heads; calls = calls_more m.calls b r h.calls; texts = h.texts; count = h.count }

@@ -1,5 +1,5 @@
 -- Texts by their numbers, as far as they are known.
-use Rattle.std.specs.Prelude.{◌≡◌, ℕ, Option, Some, None}
+use Rattle.std.specs.Prelude.{◌≡◌, ℕ, length, IfSome, Option, Some, None}
 use Rattle.std.specs.Ordering.{nat_cmp}
 use Rattle.std.specs.BTreeMap.{get}
 use Rattle.flow_base.specs.Syntax.{Bytes}
@@ -14,3 +14,7 @@ IsText (Some t) o = o ≡ Some t
 -- What is known is of this book.
 abbrev pub KnowsTexts : TextBodies → Book → Type 0
 KnowsTexts m b = (n : ℕ) → IsText (get nat_cmp m.known n) (nth b.texts n)
+
+-- so many texts, if they are counted
+abbrev pub IsTextCount : Option ℕ → Book → Type 0
+IsTextCount o b = IfSome o (λ n. n ≡ length b.texts)

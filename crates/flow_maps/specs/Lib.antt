@@ -8,6 +8,7 @@ pub mod KnownRecords
 pub mod KnownTexts
 pub mod Names
 pub mod OfRuns
+pub mod OpenOutlines
 pub mod Outlooks
 pub mod Serving
 pub mod Signals

@@ -18,6 +18,8 @@ ghost use Rattle.flow_maps.specs.Undoing.{GoesBack, IsUndo, Leads, LeavesHistory
 ghost use Rattle.flow_maps.specs.declared.signals.SignalTaken.TheVariants.{NoSignal};
 ghost use Rattle.flow_maps.specs.Serving.{Serves, Sees, IsSeen, IsRead, AreKeys, AreRunKeys, Awaits, HasSignals, HasRecords, open_key, request_key, key_if, named};
 ghost use Rattle.flow_view.specs.Heads.{head_at, head_of, event_at};
+ghost use Rattle.flow_view.specs.Outlines.{outline_at};
+ghost use Rattle.flow_maps.specs.OpenOutlines.{made_open};
 
 use crate::agenda::Agenda;
 use crate::heads::{copied, copied_request};
@@ -28,11 +30,12 @@ use crate::signals::{SignalTaken, Signals, is_quiet};
 use crate::turned::{count_behind, is_open_behind};
 use crate::undo::{Journal, RunBefore, RunBegun, Undo};
 use flow_base::book::{Change, Due, OpenActivity, Run, Timer, Turn};
-use flow_base::event::Event;
+use flow_base::event::{Event, State};
 use flow_base::number::{EventId, Moment, RunId, TextNo};
 use flow_base::sequence::Sequence;
 use flow_base::text::{Key, RawText};
 use flow_view::head::{Head, head_of};
+use flow_view::outline::Outline;
 use std::alloc::Global;
 
 /// The run that was read last: a turn of it is known to leave the keys so.
@@ -203,7 +206,7 @@ fn change_records(records: &mut Records, seen: &Option<Seen>, next: &Option<RunI
         → KnowsRecords records.new (changed b change.now) }
 {
     match change {
-        Change::AddText(_) => {}
+        Change::AddText(body) => records.add_text(body),
         Change::AddRun(flow, request, text, turn) => {
             records.begin(next, flow, request, *text, turn)
         }
@@ -225,6 +228,23 @@ fn keep_read(records: &mut Records, read: Option<ReadText>)
             records.keep_text(number, body);
         }
         None => {}
+    }
+}
+
+/// How a run of this head and these timers stands, if it is open and they are known.
+fn open_outline(head: Head, timers: Option<Sequence<Timer>>) -> Option<Outline>
+    ensures { IfSome result (λ s. (head.is_open ≡ true) × ((timers ≡ Some s.timers) × (s ≡ made_open head s.timers))) }
+{
+    if !head.is_open {
+        return None;
+    }
+    match timers {
+        Some(timers) => Some(Outline {
+            head,
+            state: State::Open,
+            timers,
+        }),
+        None => None,
     }
 }
 
@@ -495,6 +515,15 @@ impl Maps {
         };
     }
 
+    /// There are so many texts.
+    pub fn count_texts(&mut self, count: u64)
+        ensures serves { (b : Book) → length b.texts ≡ count → Serves self.old b → Serves self.new b }
+        ensures sees { (b : Book) → Sees self.old b → Sees self.new b }
+        ensures goes_back { (b c : Book) → GoesBack self.old b c → GoesBack self.new b c }
+    {
+        self.records.count_texts(count);
+    }
+
     /// One more run.
     fn add(&mut self, flow: &Key, request: &Option<Key>, is_open: bool)
         ensures keys { (b : Book) → (r : ARun) → r.request ≡ request.now → open_key r ≡ key_if is_open flow.now → AreRunKeys self.old b
@@ -753,11 +782,28 @@ impl Maps {
         self.records.event(run, event)
     }
 
+    /// How an open run stands, if that is known and there is memory for it.
+    pub fn outline(&self, run: RunId) -> Option<Outline>
+        ensures { IfSome result (λ s. (b : Book) → Serves self.now b → Some s ≡ outline_at b.runs run) }
+    {
+        match self.records.head(run) {
+            Some(known) => open_outline(known, self.agenda.copy_timers(run)),
+            None => None,
+        }
+    }
+
     /// The text of a number, if it is known and there is memory for it.
     pub fn text(&self, number: TextNo) -> Option<RawText>
         ensures { IfSome result (λ t. (b : Book) → Serves self.now b → Some t ≡ nth b.texts number) }
     {
         self.records.text(number)
+    }
+
+    /// How many texts there are, if that is known.
+    pub fn text_count(&self) -> Option<u64>
+        ensures { IfSome result (λ n. (b : Book) → Serves self.now b → n ≡ length b.texts) }
+    {
+        self.records.text_count()
     }
 
     /// How many runs there are, if that is known.

@@ -1,7 +1,7 @@
 //! What is known of single runs and texts: the heads of open runs, the events that scheduled their open activities, and texts.
-ghost use Rattle.std.specs.Prelude.{◌≡◌, ◌+◌, ◌-◌, ◌++◌, ◌∷◌, [], IfSome, Some, length, slice_set};
+ghost use Rattle.std.specs.Prelude.{◌≡◌, ◌+◌, ◌-◌, ◌++◌, ◌∷◌, [], ℕ, IfSome, Some, length, slice_set};
 ghost use Rattle.flow_base.specs.Syntax.{Bytes};
-ghost use Rattle.flow_base.specs.declared.book.Change.TheVariants.{AddRun, AddTurn, SetAttempt, SetText};
+ghost use Rattle.flow_base.specs.declared.book.Change.TheVariants.{AddRun, AddText, AddTurn, SetAttempt, SetText};
 ghost use Rattle.flow_base.specs.declared.book.Run.{Run as ARun};
 ghost use Rattle.flow_model.specs.Book.{Book, nth, changed};
 ghost use Rattle.flow_maps.specs.KnownRecords.{KnowsRecords};
@@ -14,7 +14,7 @@ use crate::heads::Heads;
 use crate::texts::TextBodies;
 use flow_base::book::{Run, Turn};
 use flow_base::event::Event;
-use flow_base::number::{EventId, Moment, RunId, TextNo};
+use flow_base::number::{EventId, LAST_NUMBER, Moment, RunId, TextNo};
 use flow_base::text::{Key, RawText};
 use flow_view::head::Head;
 use std::alloc::Global;
@@ -25,6 +25,48 @@ pub struct Records {
     heads: Heads,
     calls: Calls,
     texts: TextBodies,
+    /// How many texts there are, if that is known.
+    count: Option<u64>,
+}
+
+/// The number of the text behind so many.
+fn next_text(count: Option<u64>) -> Option<TextNo>
+    ensures { (k : ℕ) → IfSome count (λ c. c ≡ k) → IfSome result (λ n. n ≡ k + 1) }
+{
+    match count {
+        Some(known) => {
+            if known >= LAST_NUMBER {
+                return None;
+            }
+            Some(TextNo::new(known + 1).unwrap())
+        }
+        None => None,
+    }
+}
+
+/// How many texts there are, by the number of the last one.
+fn count_of(last: &Option<TextNo>) -> Option<u64>
+    ensures { (k : ℕ) → IfSome last.now (λ n. n ≡ k) → IfSome result (λ c. c ≡ k) }
+{
+    match last {
+        Some(number) => Some(number.get()),
+        None => None,
+    }
+}
+
+/// One text less.
+fn one_less(count: Option<u64>) -> Option<u64>
+    ensures { (k : ℕ) → IfSome count (λ c. c ≡ k + 1) → IfSome result (λ c. c ≡ k) }
+{
+    match count {
+        Some(known) => {
+            if known == 0 {
+                return None;
+            }
+            Some(known - 1)
+        }
+        None => None,
+    }
 }
 
 impl Records {
@@ -36,6 +78,7 @@ impl Records {
             heads: Heads::new(alloc),
             calls: Calls::new(alloc),
             texts: TextBodies::new(alloc),
+            count: None,
         }
     }
 
@@ -46,6 +89,7 @@ impl Records {
         self.heads.forget();
         self.calls.forget();
         self.texts.forget();
+        self.count = None;
     }
 
     /// The head of a run, if it is known and there is memory for it.
@@ -72,6 +116,30 @@ impl Records {
     /// Whether a text is known.
     pub fn has_text(&self, number: TextNo) -> bool {
         self.texts.has(number)
+    }
+
+    /// How many texts there are, if that is known.
+    pub fn text_count(&self) -> Option<u64>
+        ensures { IfSome result (λ n. (b : Book) → KnowsRecords self.now b → n ≡ length b.texts) }
+    {
+        self.count
+    }
+
+    /// There are so many texts.
+    pub fn count_texts(&mut self, count: u64)
+        ensures { (b : Book) → length b.texts ≡ count → KnowsRecords self.old b → KnowsRecords self.new b }
+    {
+        self.count = Some(count);
+    }
+
+    /// One more text, which is kept under its number, if that is known.
+    pub fn add_text(&mut self, body: &RawText)
+        ensures { (b : Book) → KnowsRecords self.old b → KnowsRecords self.new (changed b (AddText body.now)) }
+    {
+        let next = next_text(self.count);
+        let count = count_of(&next);
+        self.texts.keep_next(&next, body);
+        self.count = count;
     }
 
     /// A text was read, and the book changed since.
@@ -145,7 +213,9 @@ impl Records {
     pub fn take_text_back(&mut self)
         ensures { (b : Book) → (t : Bytes) → KnowsRecords self.old (record b { texts = b.texts ++ t ∷ [] }) → KnowsRecords self.new b }
     {
+        let fewer = one_less(self.count);
         self.texts.take_back();
+        self.count = fewer;
     }
 
     /// An open activity is at another attempt.

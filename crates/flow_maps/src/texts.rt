@@ -114,6 +114,25 @@ impl TextBodies {
         }
     }
 
+    /// A copy of this is kept as the text of a number, if that is known and there is memory for it.
+    pub fn keep_next(&mut self, number: &Option<TextNo>, body: &RawText)
+        ensures { (b : Book) → IfSome number.now (λ n. nth b.texts n ≡ Some body.now) → KnowsTexts self.old b → KnowsTexts self.new b }
+    {
+        match number {
+            Some(number) => self.keep_copy(*number, body),
+            None => {}
+        }
+    }
+
+    fn keep_copy(&mut self, number: TextNo, body: &RawText)
+        ensures { (b : Book) → nth b.texts number ≡ Some body.now → KnowsTexts self.old b → KnowsTexts self.new b }
+    {
+        match copied(self.alloc, body) {
+            Some(copy) => self.keep(number, copy),
+            None => {}
+        }
+    }
+
     /// This is the text of a number. One that is longer than all room isn't kept.
     pub fn keep(&mut self, number: TextNo, body: RawText)
         ensures { (b : Book) → nth b.texts number ≡ Some body → KnowsTexts self.old b → KnowsTexts self.new b }

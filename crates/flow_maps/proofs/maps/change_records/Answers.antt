@@ -1,8 +1,7 @@
-use Rattle.flow_maps.proofs.Staying.{text_added}
 use Rattle.flow_maps.proofs.maps.change_records.Goals as goal
 
 pub returns-in-AddText : goal.returns-in-AddText
-returns-in-AddText c b seen next h = rw c.in-AddText.is (text_added c.args.records.now b c.in-AddText.field-0 h)
+returns-in-AddText c b seen next h = rw c.in-AddText.is (c.add_text.ensures b h)
 
 pub returns-in-AddRun : goal.returns-in-AddRun
 returns-in-AddRun c b seen next h = rw c.in-AddRun.is (c.begin.ensures b next h)

@@ -7,4 +7,5 @@ returns c b next h = record {
   heads = c.begin.ensures b next h.heads;
   calls = c.begin-2.ensures b c.args.flow.now c.args.request.now c.args.text next h.calls;
   texts = texts_stay c.args.self.now.texts b (AddRun c.args.flow.now c.args.request.now c.args.text c.args.turn.now) h.texts;
+  count = h.count;
 }

@@ -16,4 +16,5 @@ returns c b x r there same cut h =
       calls = c.let_later_go.ensures back b
           (subst (λ n. AreWithout run n c.args.last back b) count (subst (λ (d : Book). AreWithout run (length r.history) c.args.last d b) (sym (run_is b run (λ _. r) x there)) (cut_calls b run c.args.last x r there cut))) h.calls;
       texts = h.texts;
+      count = h.count;
     }
