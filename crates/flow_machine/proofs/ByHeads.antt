@@ -1,6 +1,6 @@
 -- What commands that go on decide is decided by their run's head: each word of `ByHead` is that of `Apply`, for every book.
 use Rattle.std.proofs.Common.{◌≡◌, ℕ, List, refl, ap, ◌∙◌, Bool, true, false, Option, Some, None, Result}
-use Rattle.std.specs.Prelude.{length, max, nat_eq, nat_lt, if◌then◌else◌}
+use Rattle.std.specs.Prelude.{◌+◌, length, max, nat_eq, nat_lt, if◌then◌else◌}
 use Rattle.flow_base.specs.Syntax.{Bytes, Program}
 use Rattle.flow_base.specs.declared.value.Kind.{Kind}
 use Rattle.flow_base.specs.declared.value.Value.{Value}
@@ -13,21 +13,23 @@ use Rattle.flow_base.specs.declared.book.Run.{Run}
 use Rattle.flow_base.specs.declared.book.OpenActivity.{OpenActivity}
 use Rattle.flow_base.specs.declared.book.Turn.{Turn}
 use Rattle.flow_base.specs.declared.code.Code.{Code}
-use Rattle.flow_base.specs.declared.code.Code.TheVariants.{NoRun, NoOpenRun, NoSuchSignal, OldAttempt, WrongType}
+use Rattle.flow_base.specs.declared.code.Code.TheVariants.{NoRun, NoOpenRun, NoSuchSignal, NotOpen, OldAttempt, WrongType}
 use Rattle.flow_base.specs.declared.command.Complete.{Complete}
 use Rattle.flow_base.specs.declared.command.Fail.{Fail}
 use Rattle.flow_base.specs.declared.command.Reply.TheVariants as reply
 use Rattle.flow_base.specs.declared.command.TextFault.{TextFault}
 use Rattle.flow_model.specs.Deliver.{has_kind}
-use Rattle.flow_model.specs.Open.{moment_of}
+use Rattle.flow_model.specs.Configuration.{is_open}
+use Rattle.flow_model.specs.Open.{moment_of, state_of}
 use Rattle.flow_model.specs.WellFormed.{signal_of}
 use Rattle.flow_model.specs.Turn.{Fresh}
 use Rattle.flow_model.specs.Turned.{turned, position_by_inputs}
 use Rattle.flow_model.specs.Book.{Book, nth, open_run, signalled}
-use Rattle.flow_model.specs.Apply.{Rules, Outcome, run_from, next_run, first_turn, continued, turn_made, recorded, input_recorded, report_refusal, failure_refusal, attempt_failed, signal_recorded, if_sound, must_be, must_hold, none_there, tested, refuse_unless, on_task, task_at, gives_kind, tries_of, program_at, retried, ready_after, complete, fail, signal, fired}
+use Rattle.flow_model.specs.Apply.{Rules, Outcome, run_from, next_run, first_turn, continued, turn_made, recorded, input_recorded, report_refusal, failure_refusal, attempt_failed, signal_recorded, if_sound, must_be, must_hold, none_there, tested, refuse_unless, on_task, task_at, gives_kind, tries_of, program_at, retried, ready_after, complete, describe, fail, says, signal, fired, terminate, terminated}
 use Rattle.flow_view.specs.Heads.{head_of, head_if, event_if}
+use Rattle.flow_view.specs.Outlines.{outline_if, outline_of}
 use Rattle.flow_view.specs.declared.head.Head.{Head}
-use Rattle.flow_machine.specs.ByHead.{history_if, begun_by, next_by, made_by, recorded_by, recorded_at, input_at, StuckInputAt, attempt_refusal, given_at, StuckGivenAt, complete_at, StuckCompleteAt, run_failed_at, StuckFailureAt, fail_at, StuckFailAt, on_signal, signal_refused, signal_at, StuckSignalAt, run_sent_at, StuckSentAt, sent_at, StuckSendAt, fired_at, StuckFiredAt}
+use Rattle.flow_machine.specs.ByHead.{history_if, begun_by, next_by, made_by, recorded_by, recorded_at, input_at, StuckInputAt, attempt_refusal, given_at, StuckGivenAt, complete_at, StuckCompleteAt, run_failed_at, StuckFailureAt, fail_at, StuckFailAt, on_signal, signal_refused, signal_at, StuckSignalAt, run_sent_at, StuckSentAt, sent_at, StuckSendAt, fired_at, StuckFiredAt, ended_by, terminate_at, described_by, describe_at}
 use Rattle.flow_machine.specs.Stuck.{unless_there, where_there, where_holds, unless_holds, needs, CantRecord, StuckInput, StuckSent, StuckSignal, StuckComplete, StuckFail, StuckFailed, StuckFired}
 
 ---- Turns
@@ -259,4 +261,27 @@ fired_stuck m b d =
     elim (nth b.runs d.run) as (λ (o : Option Run). needs (head_if o) (λ h. stuck_over m b h (history_if o) (TimerFired d.id)) → needs o (λ r. needs (program_at m b r.text) (λ p. CantRecord p r.history (TimerFired d.id)))) [
       | None ↦ λ h. h
       | Some r ↦ λ h. h
+    ]
+
+---- Runs that are closed from outside
+
+pub terminate_is : (b : Book) (run : ℕ) (reason : Bytes) (at : ℕ) → terminate b run reason at ≡ terminate_at b run reason at
+unfolding terminate terminate_at
+terminate_is b run reason at =
+    elim (nth b.runs run) as (λ (o : Option Run).
+    must_be o NoRun (λ r. must_hold (is_open (state_of r.history)) NotOpen (terminated r run reason at))
+    ≡ must_be (head_if o) NoRun (λ h. must_hold h.is_open NotOpen (ended_by h.moment (h.events + 1) run reason at))) [
+      | None ↦ refl
+      | Some r ↦ refl
+    ]
+
+---- Runs that are told
+
+pub describe_is : (b : Book) (run : ℕ) → describe b run ≡ describe_at b run
+unfolding describe describe_at
+describe_is b run =
+    elim (nth b.runs run) as (λ (o : Option Run).
+    must_be o NoRun (λ r. says (reply.Run (described_by (outline_of r)))) ≡ must_be (outline_if o) NoRun (λ s. says (reply.Run (described_by s)))) [
+      | None ↦ refl
+      | Some r ↦ refl
     ]

@@ -82,7 +82,7 @@ pub record GoesOn (b c : Book) (n : ℕ) (r : Run) : Type 0 where
   pub texts : List Bytes
   pub longer : c.texts ≡ b.texts ++ texts
 
-kept_text : (m : Meaning) (b c : Book) (n : ℕ) (p : Program) (more : List Bytes) → c.texts ≡ b.texts ++ more → program_at m b n ≡ Some p → program_at m c n ≡ Some p
+pub kept_text : (m : Meaning) (b c : Book) (n : ℕ) (p : Program) (more : List Bytes) → c.texts ≡ b.texts ++ more → program_at m b n ≡ Some p → program_at m c n ≡ Some p
 kept_text m b c n p more longer reads =
     elim (nth b.texts n) as (λ o. nth b.texts n ≡ o → elim o [ None ↦ None | Some body ↦ program_if (m body) ] ≡ Some p → program_at m c n ≡ Some p) [
       | None ↦ λ e v. absurd (none-some p v)
@@ -217,7 +217,7 @@ turn_there b run r t there =
       | Some q ↦ λ at e. nth_set_same b.runs run q (with_turn t q) at ∙ ap (λ (x : Run). Some (with_turn t x)) (same_Some q r e)
     ] refl there
 
-turn_texts : (b : Book) (run : ℕ) (t : Turn) → (changed b (AddTurn run t)).texts ≡ b.texts
+pub turn_texts : (b : Book) (run : ℕ) (t : Turn) → (changed b (AddTurn run t)).texts ≡ b.texts
 turn_texts b run t = elim (nth b.runs run) as (λ o. (put_by b run (with_turn t) o).texts ≡ b.texts) [ None ↦ refl | Some q ↦ refl ]
 
 pub turn_reaches : TurnReaches

@@ -1,5 +1,5 @@
 -- What is known of positions that deciding may use stays known.
-use Rattle.std.proofs.Common.{◌≡◌, ◌≤◌, ℕ, suc, arith, List, [], ◌∷◌, refl, sym, ap, ◌∙◌, subst, Option, Some, None, Contains, inl, inr}
+use Rattle.std.proofs.Common.{◌≡◌, ◌≤◌, ℕ, suc, arith, List, [], ◌∷◌, refl, sym, ap, ◌∙◌, subst, append-nil, length-append, Option, Some, None, Contains, inl, inr}
 use Rattle.std.specs.Prelude.{◌⊎◌, ◌+◌, length, max, IfSome}
 use Rattle.std.proofs.Math.Nat.{le-max_right}
 use Rattle.std.proofs.lemmas.Option.{none-some, same_Some}
@@ -17,7 +17,7 @@ use Rattle.flow_model.specs.Open.{moment_of}
 use Rattle.flow_model.specs.Turn.{Fresh}
 use Rattle.flow_model.specs.Turned.{turned}
 use Rattle.flow_model.specs.Stands.{Stands}
-use Rattle.flow_model.specs.Book.{Book, nth, changed, changed_by}
+use Rattle.flow_model.specs.Book.{Book, nth, changed, changed_by, unbegun_run, with_turn}
 use Rattle.flow_model.specs.Apply.{program_at}
 use Rattle.flow_run.specs.Position.{config_of}
 use Rattle.flow_run.specs.declared.stance.Stance.{Stance}
@@ -26,11 +26,11 @@ use Rattle.flow_cache.specs.Entries.{Entries, Kept, HasEvents, used, without_ent
 use Rattle.flow_cache.proofs.Entries.{found_has_it, used_have_it, used_keeps, kept_have_it, without_within}
 use Rattle.flow_view.specs.Heads.{head_of, head_if, head_at}
 use Rattle.flow_view.specs.declared.head.Head.{Head}
-use Rattle.flow_machine.proofs.GoingOn.{first_turn_reaches, reached_stands, reached_stays, turn_reaches}
+use Rattle.flow_machine.proofs.GoingOn.{first_turn_reaches, kept_text, reached_stands, reached_stays, turn_reaches, turn_texts}
 use Rattle.flow_machine.proofs.Standing.{stands_moment}
 use Rattle.flow_machine.specs.ByHead.{history_if, history_at}
 use Rattle.flow_machine.specs.Reached.{Meaning, HasReached}
-use Rattle.flow_machine.specs.Seated.{AreAlike, ReachedIn, FitSeats, HasNone, IsWithin, KeepsAlike, IsSame, IsCopy, IsCopyAhead, IsPlace, Grows, KeepsOne, KeepsAll, WasThere, Settles, without_entries, LeadsTo, IsFirstLed}
+use Rattle.flow_machine.specs.Seated.{AreAlike, ReachedIn, FitSeats, HasNone, IsWithin, KeepsAlike, IsSame, IsCopy, IsCopyAhead, IsPlace, Grows, KeepsOne, KeepsAll, WasThere, Settles, without_entries, LeadsTo, LeadsNext, IsFirstLed, IsNextLed}
 use Rattle.flow_machine.specs.declared.seats.Led.{Led}
 use Rattle.flow_machine.specs.declared.seats.Seats.{Seats}
 
@@ -233,3 +233,33 @@ pub begun_leads : (m : Meaning) (b : Book) (flow : Bytes) (request : Option Byte
 begun_leads m b flow request text at number vs p t s None changes reads led listed count is = tt
 begun_leads m b flow request text at number vs p t s (Some l) changes reads led listed count is =
     first_leads m b flow request text at vs p t s l changes reads led listed (is ∙ ap (λ n. record { run = n; text = text; stance = s }) count)
+
+-- and so is the run as which another one continues
+pub next_leads : (m : Meaning) (b : Book) (h : Head) (p : Program) (run : ℕ) (cs : List Change) (o : Option Stance) → program_at m b h.text ≡ Some p → IfSome o (IsNextLed p h run cs) → IfSome o (LeadsNext m b cs h.text)
+next_leads m b h p run cs None reads it = tt
+next_leads m b h p run cs (Some s) reads it =
+    let mid = changed b (AddTurn run it.turn) in
+    let begun = it.led in
+    let reads_on : program_at m mid h.text ≡ Some p = kept_text m b mid h.text p [] (turn_texts b run it.turn ∙ sym (append-nil b.texts)) reads in
+    let led : IsFirstLed p begun.at begun.arguments begun.turn s = subst (IsFirstLed p begun.at begun.arguments begun.turn) it.there begun.led in
+    let l : Led = record { run = length mid.runs + 1; text = h.text; stance = s } in
+    let next : Change = AddRun h.flow None h.text begun.turn in
+    let reached : HasReached m (changed mid next) (length mid.runs + 1) h.text s = first_leads m mid h.flow None h.text begun.at begun.arguments p begun.turn s l (next ∷ []) reads_on led refl refl in
+    let count : length (changed mid next).runs ≡ length mid.runs + 1 = length-append mid.runs (with_turn begun.turn (unbegun_run h.flow None h.text) ∷ []) in
+    let here : HasReached m (changed mid next) (length (changed mid next).runs) h.text s = subst (λ n. HasReached m (changed mid next) n h.text s) (sym count) reached in
+    let made : cs ≡ AddTurn run it.turn ∷ next ∷ [] = it.made ∙ ap (λ (c : Change). AddTurn run it.turn ∷ c ∷ []) begun.made in
+    subst (λ (ds : List Change). LeadsNext m b ds h.text s) (sym made) here
+
+-- The run that was put last stands at a position, and no other seat has changed.
+pub last_fit : (m : Meaning) (b : Book) (text number : ℕ) (s : Stance) (o : Option Led) (old new : Seats) → FitSeats m b old → number ≡ length b.runs → IfSome o (λ l. l ≡ record { run = number; text = text; stance = s }) → HasReached m b (length b.runs) text s
+    → Grows old o new → new.kept ≡ old.kept → FitSeats m b new
+last_fit m b text number s o old new fit count led reached grows kept = fit_on m b [] old old new o fit (λ e there. there, λ e there. there) refl grows kept (stands o led)
+  where
+    stands : (q : Option Led) → IfSome q (λ l. l ≡ record { run = number; text = text; stance = s }) → IfSome q (LeadsTo m b [])
+    stands None is = tt
+    stands (Some l) is = subst (λ (x : Led). HasReached m b x.run x.text x.stance) (sym is) (subst (λ n. HasReached m b n text s) (sym count) reached)
+
+-- what the changes lead to is led to in the book that has them
+pub next_over : (m : Meaning) (b now : Book) (cs : List Change) (text : ℕ) (o : Option Stance) → now ≡ changed_by b cs → IfSome o (LeadsNext m b cs text) → IfSome o (HasReached m now (length now.runs) text)
+next_over m b now cs text None is led = tt
+next_over m b now cs text (Some s) is led = subst (λ (c : Book). HasReached m c (length c.runs) text s) (sym is) led

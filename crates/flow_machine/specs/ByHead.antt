@@ -1,6 +1,6 @@
 -- What commands that go on decide, said of a run's head, of one event, and of where its history leads: who decides reads no history
 -- where he knows the position. Each word is that of `Apply`, over the head.
-use Rattle.std.specs.Prelude.{◌+◌, ℕ, List, [], ◌∷◌, length, max, Option, Some, None, Result, nat_eq, nat_le, nat_lt, if◌then◌else◌}
+use Rattle.std.specs.Prelude.{◌+◌, ℕ, List, [], ◌∷◌, length, map, max, Option, Some, None, Result, nat_eq, nat_le, nat_lt, if◌then◌else◌}
 use Rattle.flow_base.specs.Syntax.{Bytes, Program}
 use Rattle.flow_base.specs.declared.value.Kind.{Kind}
 use Rattle.flow_base.specs.declared.value.Value.{Value}
@@ -9,13 +9,16 @@ use Rattle.flow_base.specs.declared.event.Event.{Event}
 use Rattle.flow_base.specs.declared.event.Input.{Input}
 use Rattle.flow_base.specs.declared.event.Input.TheVariants.{Signaled, ActivityCompleted, ActivityFailed, TimerFired, Terminated}
 use Rattle.flow_base.specs.declared.book.Due.{Due}
+use Rattle.flow_base.specs.declared.book.OpenActivity.{OpenActivity}
 use Rattle.flow_base.specs.declared.book.Run.{Run}
+use Rattle.flow_base.specs.declared.book.Timer.{Timer}
 use Rattle.flow_base.specs.declared.book.Turn.{Turn}
 use Rattle.flow_base.specs.declared.book.Change.{Change}
 use Rattle.flow_base.specs.declared.book.Change.TheVariants.{AddRun, AddTurn}
 use Rattle.flow_base.specs.declared.code.Code.{Code}
-use Rattle.flow_base.specs.declared.code.Code.TheVariants.{NoRun, NoOpenRun, OldAttempt, WrongType, NoSuchSignal}
+use Rattle.flow_base.specs.declared.code.Code.TheVariants.{NoRun, NoOpenRun, NotOpen, OldAttempt, WrongType, NoSuchSignal}
 use Rattle.flow_base.specs.declared.command.Complete.{Complete}
+use Rattle.flow_base.specs.declared.command.Description.{Description}
 use Rattle.flow_base.specs.declared.command.Fail.{Fail}
 use Rattle.flow_base.specs.declared.command.Reply.TheVariants as reply
 use Rattle.flow_base.specs.declared.command.TextFault.{TextFault}
@@ -25,9 +28,11 @@ use Rattle.flow_model.specs.Turn.{Fresh}
 use Rattle.flow_model.specs.Turned.{turned, position_by_inputs}
 use Rattle.flow_model.specs.WellFormed.{signal_of}
 use Rattle.flow_model.specs.Book.{Book, nth, signalled, open_run}
-use Rattle.flow_model.specs.Apply.{Rules, Outcome, must_be, must_hold, none_there, tested, refuse_unless, on_task, task_at, if_sound, program_at, first_turn, continued, gives_kind, tries_of, ready_after, retried, history_limit}
+use Rattle.flow_model.specs.Apply.{Rules, Outcome, must_be, must_hold, none_there, tested, refuse_unless, on_task, task_at, if_sound, program_at, first_turn, continued, gives_kind, tries_of, ready_after, retried, says, history_limit}
 use Rattle.flow_view.specs.declared.head.Head.{Head}
+use Rattle.flow_view.specs.declared.outline.Outline.{Outline}
 use Rattle.flow_view.specs.Heads.{head_at, event_at}
+use Rattle.flow_view.specs.Outlines.{outline_at}
 use Rattle.flow_machine.specs.Stuck.{unless_there, where_there, where_holds, unless_holds, needs, CantRecord}
 
 -- the history of a run; none where there is no such run
@@ -172,3 +177,35 @@ fired_at u b at d = if_sound (head_at b.runs d.run) (λ h. input_at u b h d.run 
 
 unfoldable pub StuckFiredAt : (Bytes → Result Program TextFault) → Book → Due → Type 0
 StuckFiredAt program_of b d = needs (head_at b.runs d.run) (λ h. StuckInputAt program_of b h d.run (TimerFired d.id))
+
+---- Runs that are closed from outside
+
+-- the turn that closes a run, behind an event of this moment and under this number
+abbrev pub ended_by : ℕ → ℕ → ℕ → Bytes → ℕ → Outcome
+ended_by moment event run reason at =
+    record {
+      reply = reply.Recorded run event;
+      changes = AddTurn run (record { at = max at moment; input = Terminated reason; commands = [] }) ∷ [];
+    }
+
+unfoldable pub terminate_at : Book → ℕ → Bytes → ℕ → Outcome
+terminate_at b run reason at =
+    must_be (head_at b.runs run) NoRun (λ h.
+    must_hold h.is_open NotOpen (ended_by h.moment (h.events + 1) run reason at))
+
+---- Runs that are told
+
+-- a run that stands so, told
+abbrev pub described_by : Outline → Description
+described_by s =
+    record {
+      flow = s.head.flow;
+      text = s.head.text;
+      state = s.state;
+      events = s.head.events;
+      activities = map (λ (t : OpenActivity). t.event) s.head.tasks;
+      timers = map (λ (t : Timer). t.id) s.timers;
+    }
+
+unfoldable pub describe_at : Book → ℕ → Outcome
+describe_at b run = must_be (outline_at b.runs run) NoRun (λ s. says (reply.Run (described_by s)))

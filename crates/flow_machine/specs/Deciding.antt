@@ -1,5 +1,5 @@
 -- What deciding a command promises.
-use Rattle.std.specs.Prelude.{◌≡◌, List, [], ◌∷◌, Option, Some, None, Result, IfOk, Vec}
+use Rattle.std.specs.Prelude.{◌≡◌, List, Result, IfOk, Vec}
 use Rattle.flow_base.specs.declared.book.Change.{Change}
 use Rattle.flow_base.specs.declared.command.Reply.{Reply}
 use Rattle.flow_model.specs.Book.{Book, changed_by}
@@ -32,8 +32,3 @@ pub record Decides (old new : Book) (reply : Reply) (changes : List Change) (o :
   pub reply_is : reply ≡ o.reply
   pub changes_are : changes ≡ o.changes
   pub book_is : new ≡ changed_by old o.changes
-
--- A change that there may be, as a list.
-abbrev pub listed : Option Change → List Change
-listed None = []
-listed (Some c) = c ∷ []

@@ -1,5 +1,5 @@
 -- Positions that deciding may use, and what is known of them.
-use Rattle.std.specs.Prelude.{◌≡◌, ◌⊎◌, ℕ, List, [], ◌∷◌, Contains, Option, Some, max}
+use Rattle.std.specs.Prelude.{◌≡◌, ◌⊎◌, ℕ, List, [], ◌∷◌, Contains, Option, None, Some, length, max}
 use Rattle.flow_base.specs.Syntax.{Program}
 use Rattle.flow_base.specs.declared.event.Cmd.{Cmd}
 use Rattle.flow_base.specs.declared.event.Event.{Event}
@@ -8,7 +8,7 @@ use Rattle.flow_base.specs.declared.event.Input.TheVariants.{Started}
 use Rattle.flow_base.specs.declared.value.Value.{Value}
 use Rattle.flow_base.specs.declared.book.Change.{Change}
 use Rattle.flow_base.specs.declared.book.Turn.{Turn}
-use Rattle.flow_base.specs.declared.book.Change.TheVariants.{AddTurn}
+use Rattle.flow_base.specs.declared.book.Change.TheVariants.{AddRun, AddTurn}
 use Rattle.flow_model.specs.Configuration.{first_configuration}
 use Rattle.flow_model.specs.Stands.{Stands}
 use Rattle.flow_model.specs.Turn.{Fresh}
@@ -23,6 +23,7 @@ use Rattle.flow_cache.specs.Laws.{Rule, AllHave}
 use Rattle.flow_machine.specs.Reached.{Meaning, HasReached}
 use Rattle.flow_machine.specs.declared.seats.Led.{Led}
 use Rattle.flow_machine.specs.declared.seats.Seats.{Seats}
+use Rattle.flow_machine.specs.declared.turns.Continuation.{Continuation}
 
 -- The run has reached in the book what is kept of it.
 abbrev pub ReachedIn : Meaning → Book → Rule
@@ -117,6 +118,31 @@ pub record IsLedBy (p : Program) (h : Head) (s : Stance) (run at : ℕ) (i : Inp
   pub its_text : l.text ≡ h.text
   pub leads : turned p Fresh (config_of p s) (max at h.moment) i ≡ Some (commands, config_of p l.stance)
   pub made : changes ≡ AddTurn run (record { at = max at h.moment; input = i; commands = commands }) ∷ rest
+
+-- It begins a run of this head's flow and text, whose first turn leads to the position.
+pub record IsNextRun (p : Program) (h : Head) (n : Continuation) : Type 0 where
+  pub at : ℕ
+  pub arguments : List Value
+  pub turn : Turn
+  pub led : IsFirstLed p at arguments turn n.stance
+  pub made : n.change ≡ AddRun h.flow None h.text turn
+
+-- its change, if there is one
+abbrev pub listed_next : Option Continuation → List Change
+listed_next None = []
+listed_next (Some n) = n.change ∷ []
+
+-- The changes are a turn of the run and the run as which it continues, which stands at the position.
+pub record IsNextLed (p : Program) (h : Head) (run : ℕ) (changes : List Change) (s : Stance) : Type 0 where
+  pub turn : Turn
+  pub next : Continuation
+  pub there : next.stance ≡ s
+  pub led : IsNextRun p h next
+  pub made : changes ≡ AddTurn run turn ∷ next.change ∷ []
+
+-- Once these changes are made, the last run has reached the position.
+abbrev pub LeadsNext : Meaning → Book → List Change → ℕ → Stance → Type 0
+LeadsNext m b cs text s = HasReached m (changed_by b cs) (length (changed_by b cs).runs) text s
 
 -- Under this text the run's whole history stands at the position.
 pub record IsTextLed (p : Program) (h : List Event) (run text : ℕ) (l : Led) : Type 0 where

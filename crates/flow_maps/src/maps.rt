@@ -9,12 +9,13 @@ ghost use Rattle.flow_maps.specs.Undoing.{GoesBack, IsUndo, Leads, Returns};
 ghost use Rattle.flow_maps.specs.KnownTexts.{KnowsTexts};
 ghost use Rattle.flow_maps.specs.Serving.{Serves, KnowsFacts};
 ghost use Rattle.flow_view.specs.Heads.{head_at, event_at};
+ghost use Rattle.flow_view.specs.Outlines.{outline_at};
 
 use crate::calls::find_call;
 use crate::facts::Facts;
 use crate::heads::copied_if;
 use crate::outlook::{BookWaits, outlook};
-use crate::seat::Seat;
+use crate::seat::{Seat, outline_by};
 use crate::texts::TextBodies;
 use crate::time_slots::first_due;
 use crate::undo::{Journal, Undo};
@@ -23,6 +24,7 @@ use flow_base::event::Event;
 use flow_base::number::{EventId, Moment, RunId, TextNo};
 use flow_base::text::{Key, RawText};
 use flow_view::head::Head;
+use flow_view::outline::Outline;
 use std::alloc::Global;
 
 /// What is known of the runs, what is known of texts, and what takes the changes back that were noted since the last commit.
@@ -238,6 +240,16 @@ impl Maps {
     {
         match self.seat(run) {
             Some(seat) => copied_if(self.journal.alloc, &seat.head),
+            None => None,
+        }
+    }
+
+    /// How a run stands, if it is open, that is known, and there is memory for it.
+    pub fn outline(&self, run: RunId) -> Option<Outline>
+        ensures { IfSome result (λ o. (b : Book) → Serves self.now b → Some o ≡ outline_at b.runs run) }
+    {
+        match self.seat(run) {
+            Some(seat) => outline_by(self.journal.alloc, seat),
             None => None,
         }
     }

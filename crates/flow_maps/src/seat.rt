@@ -6,16 +6,19 @@ ghost use Rattle.flow_model.specs.Book.{unbegun_run, with_attempt, with_text, wi
 ghost use Rattle.flow_model.specs.Open as left_open;
 ghost use Rattle.flow_maps.specs.Seats.{AreCalls, IsSeat, IsSeated, made_of};
 ghost use Rattle.flow_view.specs.Heads as heads;
+ghost use Rattle.flow_view.specs.Outlines.{outline_of};
 
 use crate::calls::{Calls, calls_behind, calls_of};
 use crate::heads::{attempted, copied_if, fresh, head_behind};
 use crate::left::timers_behind;
 use flow_base::book::{Change, OpenActivity, Run, Timer, Turn};
+use flow_base::event::State;
 use flow_base::number::{EventId, Moment, TextNo};
 use flow_base::sequence::Sequence;
 use flow_base::text::Key;
 use flow_view::head::{Head, head_of};
 use flow_view::history::{is_open, timers_of};
+use flow_view::outline::Outline;
 use std::alloc::Global;
 use std::collections::BTreeMap;
 use std::mem::replace;
@@ -115,6 +118,26 @@ fn copied_timers(alloc: Global, timers: &[Timer]) -> Option<Sequence<Timer>>
         Ok(()) => Some(Sequence::from_vec(list)),
         Err(_) => None,
     }
+}
+
+/// How an open run stands, if there is memory for it.
+pub(crate) fn outline_by(alloc: Global, seat: &Seat) -> Option<Outline>
+    ensures { IfSome result (λ o. (r : ARun) → IsSeat seat.now r → o ≡ outline_of r) }
+{
+    if !seat.head.is_open {
+        return None;
+    }
+    let Some(head) = copied_if(alloc, &seat.head) else {
+        return None;
+    };
+    let Some(timers) = copied_timers(alloc, seat.timers.as_slice()) else {
+        return None;
+    };
+    Some(Outline {
+        head,
+        state: State::Open,
+        timers,
+    })
 }
 
 /// The seat of a run behind a turn more, if it is open then. None where there is no memory for it.

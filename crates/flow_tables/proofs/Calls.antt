@@ -1,5 +1,6 @@
 -- What a call over a view says as one record, from what its parts say.
 use Rattle.std.proofs.Common.{◌≡◌, Result, Ok, Err, refl, sym, subst}
+use Rattle.std.specs.Prelude.{IfOk}
 use Rattle.flow_model.specs.Book.{Book}
 use Rattle.flow_view.specs.Reading.{Caused}
 use Rattle.flow_view.specs.declared.fault.ViewFault.{ViewFault}
@@ -132,6 +133,20 @@ refused_as g old new f value other read = record {
   was_true = read.was_true;
   follows = read.follows;
 }
+
+-- that is made of its value where there is memory
+pub read_made : {V A B : Type 0} (g : Views V) (old new : V) (v : A) (result : Result B ViewFault) (value : Book → A) (other : Book → B) → Recalled g old new (Ok v) value → IfOk result (λ w. (b : Book) → v ≡ value b → w ≡ other b) → Caused result ⊥
+    → Recalled g old new result other
+read_made g old new v (Ok w) value other read made few = read_as g old new v w value other read (λ sure is. made (g.book old) is)
+read_made g old new v (Err (fault.NoMemory _)) value other read made few = record {
+  reads = tt;
+  cause = λ a before now sure. tt;
+  goes_on = tt;
+  sure = read.sure;
+  was_true = read.was_true;
+  follows = read.follows;
+}
+read_made g old new v (Err fault.StoreRefused) value other read made few = absurd few
 
 -- or since the look was refused
 pub not_read : {V A B : Type 0} (g : Views V) (old new : V) (f : ViewFault) (value : Book → A) → Looked {A = B} g old new (Err f) → Recalled {A = A} g old new (Err f) value

@@ -3,3 +3,4 @@ pub mod Called
 pub mod Codes
 pub mod Heads
 pub mod Listed
+pub mod Outlines

@@ -7,5 +7,6 @@ pub mod head;
 pub mod history;
 pub mod left;
 pub mod lists;
+pub mod outline;
 pub mod run;
 pub mod view;
