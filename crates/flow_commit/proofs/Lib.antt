@@ -1,3 +1,5 @@
+pub mod Stretches
+pub mod Shut
 pub mod Following
 pub mod Ends
 pub mod Lawful
@@ -6,6 +8,7 @@ pub mod Posting
 pub mod Sealing
 pub mod Seating
 pub mod Looking
+pub mod Closing
 pub mod BoardRows
 pub mod Refusing
 pub mod Handed

@@ -1,5 +1,5 @@
 -- What the calls of a keeper say, each in one word. An engine says the same of the keeper that it has.
-use Rattle.std.specs.Prelude.{◌≡◌, ◌⊎◌, ◌≤◌, ◌^◌, ℕ, true, false, List, length, Result, Err, IfOk, IfErr}
+use Rattle.std.specs.Prelude.{◌≡◌, ◌⊎◌, ◌≤◌, ◌^◌, ℕ, true, false, List, length, Result, Err, IfOk, IfErr, OnOk}
 use Rattle.sqlite_trees.specs.declared.store.Store.{Ghosts}
 use Rattle.flow_base.specs.declared.fault.Fault.{Fault}
 use Rattle.flow_base.specs.declared.fault.Fault.TheVariants as faults
@@ -15,9 +15,11 @@ use Rattle.flow_view.specs.declared.fault.ViewFault.TheVariants.{StoreRefused}
 use Rattle.flow_tables.specs.Owned.{Follows, state_of}
 use Rattle.flow_commit.specs.declared.outcome.Outcome.{Outcome}
 use Rattle.flow_commit.specs.declared.outcome.Outcome.TheVariants as outcomes
-use Rattle.flow_commit.specs.Boards.{AreAmong, Boarded, IsBoardOf, IsOfBoard}
+use Rattle.flow_commit.specs.Boards.{AreAmong, Boarded, IsBoardOf, IsOfBoard, names_over}
 use Rattle.flow_commit.specs.Committing.{HasCommitted, HasGoneOn, HasNoRoom, HasNoted, IsDown, IsFor, IsRefusedFor}
 use Rattle.flow_commit.specs.Keeping.{Keeping, IsFit, IsUp, KeepsBook, kept_book, logged, rules}
+use Rattle.flow_commit.specs.Over.{StayOver}
+use Rattle.flow_commit.specs.Shutting.{AreShut}
 use Rattle.flow_commit.specs.Verifying.{IsOfVerify, IsVerified}
 
 -- A batch was applied and committed, the whole of it or nothing.
@@ -31,6 +33,8 @@ pub record CommitSays {S : Type 0} (g : Ghosts S) (old new : Keeping S) (batch :
   pub same : new.stored.opened ≡ old.stored.opened
   pub found : new.found ≡ old.found
   pub posted : new.posted ≡ old.posted
+  -- what is over is so for good
+  pub over : StayOver old.over new.over
   pub noted : HasNoted g old new batch result
   -- an open connection was open before, and kept a book unless nothing was done
   pub up : IsFit g new → IsUp g new → IsUp g old
@@ -43,6 +47,7 @@ pub record CommitSays {S : Type 0} (g : Ghosts S) (old new : Keeping S) (batch :
 -- What only reads the book leaves all as it was, whatever it answers.
 pub record HasStayed {S A : Type 0} (g : Ghosts S) (old new : Keeping S) (result : Result A Fault) : Type 0 where
   pub same : (new.halted ≡ old.halted) × (new.kept ≡ old.kept) × (new.found ≡ old.found) × (new.log ≡ old.log)
+  pub over : new.over ≡ old.over
   -- the store is as it was: what was kept is kept on, and each stop leaves it
   pub follows : Follows g old.stored new.stored
   pub fit : IsFit g new → IsFit g old
@@ -60,6 +65,9 @@ pub record BoardSays {S : Type 0} (g : Ghosts S) (posted : List Key) (moment : �
   -- it is that of the book behind all commands that were kept
   pub behind : IsFit g new → IfOk result (λ board. IsBoardOf (after rules old.found (logged old.log)) posted moment board)
   pub names : IfOk result (λ board. (board.kept ≡ old.kept) × (board.posted ≡ posted))
+  -- it names nothing of a run that is over, whatever the disk tells; and such a run has nothing open in that book
+  pub over : IfOk result (λ board. (board.over ≡ old.over) × (names_over old.over board.tasks ≡ false))
+  pub shut : IsFit g new → OnOk result (AreShut old.over (after rules old.found (logged old.log)))
   pub counted : IfOk result (λ board. board.kept ≡ length old.log)
   pub stayed : HasStayed g old new result
   pub among : IfErr result (IsOfBoard old.halted)

@@ -1,8 +1,10 @@
 //! What a commit that was kept is known by.
 ghost use Rattle.std.specs.Prelude.{◌≡◌};
+ghost use Rattle.flow_commit.specs.Over.{StayOver};
 ghost use Rattle.flow_commit.specs.Stamps.{IsLawful};
 
 use crate::account::Account;
+use flow_base::number::RunId;
 use flow_base::submission::Receipt;
 use std::marker::Model;
 use unseen::Listed;
@@ -14,18 +16,21 @@ pub struct Stamp {
     pub(crate) account: Listed<Account>,
     /// The receipts of the batch, for contracts alone.
     pub(crate) own: Listed<Receipt>,
+    /// The runs that the batch has closed: nothing of them is ever open again.
+    pub(crate) closed: Vec<RunId>,
 }
 
 impl Model for Stamp {
+    ghost use Rattle.flow_commit.specs.Over.{StayOver};
     ghost use Rattle.flow_commit.specs.Stamps.{IsLawful, Stamped, stamped_code, only};
 
     ghost Value = { Stamped };
 
     ghost coded = { stamped_code };
 
-    ghost view = { λ s. record { number = s.number; account = only s.account; own = s.own } };
+    ghost view = { λ s. record { number = s.number; account = only s.account; own = s.own; closed = s.closed.items } };
 
-    ghost invariant = { λ s. IsLawful (only s.account) };
+    ghost invariant = { λ s. IsLawful (only s.account) × StayOver s.closed.items (only s.account).over };
 }
 
 impl Stamp {
@@ -34,6 +39,14 @@ impl Stamp {
         ensures { result ≡ self.now.number }
     {
         self.number
+    }
+
+    /// The runs that the batch has closed. They are over.
+    pub fn closed(&self) -> &[RunId]
+        ensures runs { result.now ≡ self.now.closed }
+        ensures over { StayOver self.now.closed self.now.account.over }
+    {
+        self.closed.as_slice()
     }
 
     /// Spends the stamp where its receipts are published, and gives its number.
@@ -45,6 +58,7 @@ impl Stamp {
             number,
             account: _,
             own: _,
+            closed: _closed,
         } = self;
         number
     }
@@ -57,6 +71,7 @@ impl Stamp {
             number: _,
             account: _,
             own: _,
+            closed: _closed,
         } = self;
     }
 }

@@ -6,25 +6,29 @@ use Rattle.flow_base.specs.declared.submission.Receipt.{Receipt}
 use Rattle.flow_base.specs.declared.submission.Taken.{Taken}
 use Rattle.flow_commit.specs.Accounts.{Accounted}
 use Rattle.flow_commit.specs.Keeping.{count_from}
+use Rattle.flow_commit.specs.Over.{StayOver}
 use Rattle.flow_commit.specs.Stamps.{Stamped}
 use Rattle.flow_commit.specs.Boards.{Boarded}
 use Rattle.flow_hub.specs.declared.known.HubFacts.{HubFacts}
 use Rattle.flow_hub.specs.declared.known.TakeFacts.{TakeFacts}
-use Rattle.flow_queues.specs.Posting.{HasKeys, new_ones}
+use Rattle.flow_queues.specs.Posting.{HasStill, new_ones}
 use Rattle.flow_hub.specs.Asks.{IsAsked, tickets_in, takens_of}
 use Rattle.flow_queues.specs.Refusing.{refused_by}
 use Rattle.flow_hub.specs.Knowing.{IsOver, answered_in, taken_at_once}
 
--- What the keeper has kept is what the publisher has published, over the same book and file, and nothing is taken.
+-- What the keeper has kept is what the publisher has published, over the same book and file, and nothing is taken. The runs whose keys
+-- the publisher has let go of, if there are any, are over.
 pub record Together (keeper : Accounted) (k : HubFacts) : Type 0 where
   pub log : keeper.log ≡ k.history
   pub over : IsOver k.last (keeper ∷ [])
+  pub gone : StayOver k.gone keeper.over
   pub none : k.held ≡ []
 
 -- These are taken, and in all else keeper and publisher stand together.
 pub record InHand (keeper : Accounted) (k : HubFacts) (xs : List Taken) : Type 0 where
   pub log : keeper.log ≡ k.history
   pub over : IsOver k.last (keeper ∷ [])
+  pub gone : StayOver k.gone keeper.over
   pub taken : k.held ≡ xs
 
 -- These are taken: the next that were submitted and not taken before, with none left out.
@@ -35,6 +39,7 @@ pub record HasTaken (old new : HubFacts) (xs : List Taken) : Type 0 where
   pub last : new.last ≡ old.last
   pub ended : new.ended ≡ old.ended
   pub posted : new.posted ≡ old.posted
+  pub gone : new.gone ≡ old.gone
   pub boarded : new.boarded ≡ old.boarded
   pub outlook : new.outlook ≡ old.outlook
   pub skipped : new.skipped ≡ old.skipped
@@ -70,7 +75,8 @@ pub record Answers (k : HubFacts) (stamp : Stamped) (rs : List Receipt) : Type 0
   pub log : stamp.account.log ≡ k.history ++ rs
   pub over : IsOver k.last (stamp.account ∷ [])
 
--- The history has these receipts more, and is all that the stamp's keeper has kept. What the last board says holds no more.
+-- The history has these receipts more, and is all that the stamp's keeper has kept. The keys of the runs that the stamp tells are closed
+-- are let go of. What the last board says holds no more.
 pub record HasPublished (old new : HubFacts) (stamp : Stamped) (rs : List Receipt) : Type 0 where
   pub history : new.history ≡ old.history ++ rs
   pub log : new.history ≡ stamp.account.log
@@ -80,6 +86,7 @@ pub record HasPublished (old new : HubFacts) (stamp : Stamped) (rs : List Receip
   pub refused : new.refused ≡ old.refused
   pub ended : new.ended ≡ old.ended
   pub posted : new.posted ≡ old.posted
+  pub gone : new.gone ≡ old.gone ++ stamp.closed
   pub boarded : new.boarded ≡ false
   pub outlook : new.outlook ≡ None
   pub skipped : new.skipped ≡ old.skipped
@@ -93,14 +100,17 @@ pub record HasRefused (old new : HubFacts) (xs : List Taken) (code : Code) : Typ
   pub last : new.last ≡ old.last
   pub ended : new.ended ≡ old.ended
   pub posted : new.posted ≡ old.posted
+  pub gone : new.gone ≡ old.gone
   pub boarded : new.boarded ≡ false
   pub outlook : new.outlook ≡ None
   pub skipped : new.skipped ≡ old.skipped
 
--- The board was made behind all that is published, when these tasks were posted.
+-- The board was made behind all that is published, when these tasks were posted, but for what is of runs that are gone; and it names
+-- nothing of these, if there are any.
 pub record IsFresh (k : HubFacts) (board : Boarded) : Type 0 where
   pub kept : board.kept ≡ length k.history
-  pub posted : HasKeys (record { keys = board.posted }) k.posted
+  pub posted : HasStill k.gone (record { keys = board.posted }) k.posted
+  pub gone : StayOver k.gone board.over
 
 -- All else that the publisher alone changes is as it was.
 pub record IsSameHistory (old new : HubFacts) : Type 0 where
@@ -110,6 +120,7 @@ pub record IsSameHistory (old new : HubFacts) : Type 0 where
   pub held : new.held ≡ old.held
   pub takes : new.takes ≡ old.takes
   pub ended : new.ended ≡ old.ended
+  pub gone : new.gone ≡ old.gone
 
 -- Those of the board's tasks are posted that weren't posted before, each once and in their order, and it says what is open.
 pub record HasPosted (old new : HubFacts) (board : Boarded) : Type 0 where
@@ -136,6 +147,7 @@ pub record HasEnded (old new : HubFacts) : Type 0 where
   pub held : new.held ≡ old.held
   pub takes : new.takes ≡ old.takes
   pub posted : new.posted ≡ old.posted
+  pub gone : new.gone ≡ old.gone
   pub boarded : new.boarded ≡ old.boarded
   pub outlook : new.outlook ≡ old.outlook
   pub skipped : new.skipped ≡ old.skipped

@@ -1,8 +1,9 @@
 //! The calls of the thread that answers.
 ghost use Rattle.std.specs.Prelude.{◌≡◌, ◌<◌, ◌≤◌, true, false, [], length, IfErr, OnOk};
 ghost use Rattle.std.specs.Vec.{vec_capacity};
+ghost use Rattle.flow_commit.specs.Over.{StayOver};
 ghost use Rattle.flow_hub.specs.Knowing.{IsBefore, IsHistory, IsSamePart};
-ghost use Rattle.flow_queues.specs.Posting.{HasKeys, IsOnce};
+ghost use Rattle.flow_queues.specs.Posting.{HasStill, IsOnce};
 ghost use Rattle.flow_hub.specs.Publishing.{Answers, HasTaken, HasPublished, HasRefused, HasPosted, HasSkipped, HasEnded, IsFresh, IsAllTaken, IsDone, TakesAll};
 ghost use Rattle.flow_hub.specs.Seating.{IsPublishers};
 
@@ -16,7 +17,7 @@ use flow_base::submission::{Receipt, Taken};
 use flow_base::task::Posted;
 use flow_commit::board::Board;
 use flow_commit::stamp::Stamp;
-use flow_queues::posting::Keys;
+use flow_queues::posting::{Keys, let_go};
 use std::alloc::{AllocError, Global};
 use std::collections::BTreeSet;
 use std::marker::Model;
@@ -29,14 +30,14 @@ pub struct Publisher<B: Room> {
     alloc: Global,
     shared: Arc<Shared<B>>,
     seat: Pass<B>,
-    /// The keys of all that it has posted.
+    /// The keys of what it has posted, but for those of runs that are gone.
     keys: Keys,
 }
 
 impl<B: Room> Model for Publisher<B> {
     ghost use Rattle.flow_hub.specs.declared.known.HubFacts.{HubFacts};
     ghost use Rattle.flow_hub.specs.Knowing.{known_code};
-    ghost use Rattle.flow_queues.specs.Posting.{HasKeys};
+    ghost use Rattle.flow_queues.specs.Posting.{HasStill};
     ghost use Rattle.flow_hub.specs.Seating.{IsPublishers};
 
     ghost Value = { HubFacts };
@@ -45,7 +46,7 @@ impl<B: Room> Model for Publisher<B> {
 
     ghost view = { λ p. p.seat.was };
 
-    ghost invariant = { λ p. IsPublishers p.seat × HasKeys p.keys p.seat.was.posted };
+    ghost invariant = { λ p. IsPublishers p.seat × HasStill p.seat.was.gone p.keys p.seat.was.posted };
 }
 
 /// Waits until something is there to be taken, or nothing will come.
@@ -119,13 +120,16 @@ impl<B: Room> Publisher<B> {
         some
     }
 
-    /// Answers all that was taken, by the receipts of a stamp.
+    /// Answers all that was taken, by the receipts of a stamp. The keys of the runs that the stamp tells are closed are let go of: these
+    /// runs are over.
     pub fn publish<R: Wait>(&mut self, rt: &R, receipts: Vec<Receipt>, stamp: Stamp)
         requires answers { Answers self.old stamp receipts.items }
         ensures published { HasPublished self.old self.new stamp receipts.items }
+        ensures closed { StayOver stamp.closed stamp.account.over }
         ensures legal { IsHistory self.new }
         ensures grows { IsBefore self.old self.new }
     {
+        let_go(&mut self.keys, stamp.closed());
         let shared = shared_in(&self.shared);
         let me = shared.seats.leave(&mut self.seat);
         let (me, wake) = shared.lock(rt).publish(&shared.seats, me, receipts, stamp);
@@ -147,8 +151,8 @@ impl<B: Room> Publisher<B> {
     }
 
     /// Posts those of a board's tasks that it hasn't posted before, for those who give them out, and what the board says beside. By
-    /// the caller's condition the board was made behind all that is published, when these tasks were posted. So none is posted
-    /// twice, whatever the board names.
+    /// the caller's condition the board was made behind all that is published, when these tasks were posted, and names nothing of a
+    /// run that is gone. So none is posted twice, whatever the board names.
     ///
     /// # Failure
     /// E01: nothing is posted, and the board comes back.
@@ -174,9 +178,9 @@ impl<B: Room> Publisher<B> {
         }
     }
 
-    /// The keys of all that it has posted.
+    /// The keys of what it has posted and may come again: of all but what is of runs that are gone, of which it has none.
     pub fn posted(&self) -> &BTreeSet<Posted>
-        ensures { HasKeys result.now self.now.posted }
+        ensures { HasStill self.now.gone result.now self.now.posted }
     {
         &self.keys
     }

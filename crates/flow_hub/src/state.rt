@@ -305,7 +305,7 @@ impl<B: Room> State<B> {
     ) -> (Pass<B>, WakeAnswered)
         requires seat { IsPublishers me }
         requires answers { Answers me.was stamp receipts.items }
-        ensures published { self.new ≡ published self.old stamp.account receipts.items }
+        ensures published { self.new ≡ published self.old stamp receipts.items }
         ensures seat { result.0 ≡ seeing true false 0 self.new.known }
         ensures seen { HasPublished me.was result.0.was stamp receipts.items }
         ensures grows { IsBefore me.was result.0.was }

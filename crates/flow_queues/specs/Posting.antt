@@ -1,5 +1,5 @@
 -- Which tasks of a board are posted: each that wasn't posted before, once.
-use Rattle.std.specs.Prelude.{◌≡◌, Bool, true, false, cond, List, [], ◌∷◌, ◌++◌}
+use Rattle.std.specs.Prelude.{◌≡◌, ◌&&◌, not, ℕ, Bool, true, false, cond, List, [], ◌∷◌, ◌++◌, Option, Some, None}
 use Rattle.std.specs.List.{list_any}
 use Rattle.std.specs.declared.cmp.Ordering.{Ordering}
 use Rattle.std.specs.Ordering.{nat_cmp, is_eq, ordering_then}
@@ -21,6 +21,23 @@ has_key ts q = list_any (λ (t : Task). is_key (key_of t) q) ts
 -- The set has the keys of these tasks, and no other.
 abbrev pub HasKeys : BTreeSet Key → List Task → Type 0
 HasKeys s ts = (q : Key) → contains key_cmp s q ≡ has_key ts q
+
+-- whether a run is one of these
+abbrev pub is_of : List ℕ → ℕ → Bool
+is_of runs n = list_any (λ (r : ℕ). is_eq (nat_cmp r n)) runs
+
+-- whether one of the tasks is of such a run
+abbrev pub names_of : List ℕ → List Task → Bool
+names_of runs ts = list_any (λ (t : Task). is_of runs t.run) ts
+
+-- The set has the keys of these tasks, but for what is of these runs, and no other.
+abbrev pub HasStill : List ℕ → BTreeSet Key → List Task → Type 0
+HasStill gone s ts = (q : Key) → contains key_cmp s q ≡ (has_key ts q && not (is_of gone q.0))
+
+-- the first of a run's keys; none where the set has none
+abbrev pub IsFirstOf : ℕ → BTreeSet Key → Option Key → Type 0
+IsFirstOf run s None = (q : Key) → q.0 ≡ run → contains key_cmp s q ≡ false
+IsFirstOf run s (Some k) = (k.0 ≡ run) × (contains key_cmp s k ≡ true)
 
 -- No two of the tasks have one key.
 abbrev pub IsOnce : List Task → Type 0

@@ -1,16 +1,17 @@
-//! The keys of all that was posted, and which tasks of a board are new.
-ghost use Rattle.std.specs.Prelude.{◌≡◌, ◌≤◌, ◌+◌, ◌++◌, ◌&&◌, ◌||◌, cond, not, true, false, List, length, vec_len, IfOk, IfErr, OnErr};
-ghost use Rattle.std.specs.BTreeSet.{contains};
+//! The keys of what was posted, and which tasks of a board are new.
+ghost use Rattle.std.specs.Prelude.{◌≡◌, ◌≤◌, ◌<◌, ◌^◌, ◌+◌, ◌∷◌, [], ◌++◌, ◌&&◌, ◌||◌, cond, not, true, false, List, length, vec_len, IfOk, IfErr, OnErr};
+ghost use Rattle.std.specs.BTreeSet.{btree_set_len, contains};
 ghost use Rattle.std.specs.VecDeque.{deque_len, deque_capacity};
 ghost use Rattle.flow_base.specs.Keys.{Key, key_of as the_key};
 ghost use Rattle.flow_base.specs.declared.task.Task.{Task as ATask};
-ghost use Rattle.flow_queues.specs.Posting.{HasKeys, chosen, has_key, is_key, key_cmp, marks_of, new_ones};
+ghost use Rattle.flow_queues.specs.Posting.{HasKeys, IsFirstOf, chosen, has_key, is_key, is_of, key_cmp, marks_of, new_ones};
 
+use flow_base::number::RunId;
 use flow_base::task::{Posted, Task};
 use std::alloc::{AllocError, Global};
 use std::collections::{BTreeSet, VecDeque};
 
-/// The keys of all that was posted.
+/// The keys of what was posted and may still come.
 pub type Keys = BTreeSet<Posted>;
 
 fn key_of(task: &Task) -> Posted
@@ -76,6 +77,44 @@ pub fn add_all(alloc: Global, keys: &mut Keys, tasks: &[Task]) -> Result<Vec<boo
         }
     }
     Ok(marks)
+}
+
+/// The first key of a run.
+fn first_of(keys: &Keys, run: u64) -> Option<Posted>
+    requires { run < 2 ^ 63 }
+    ensures { IsFirstOf run keys.now result }
+{
+    let mut own = keys.range((run, 0, 0)..(run + 1, 0, 0));
+    let Some(key) = own.next() else {
+        return None;
+    };
+    Some(*key)
+}
+
+fn drop_key(keys: &mut Keys, key: &Posted)
+    ensures dropped { (q : Key) → contains key_cmp keys.new q ≡ cond (is_key key.now q) false (contains key_cmp keys.old q) }
+    ensures fewer { contains key_cmp keys.old key.now ≡ true → btree_set_len keys.new < btree_set_len keys.old }
+{
+    keys.remove(key);
+}
+
+/// Takes all keys of a run away. It looks at these alone.
+fn let_go_one(keys: &mut Keys, run: u64)
+    requires { run < 2 ^ 63 }
+    ensures { (q : Key) → contains key_cmp keys.new q ≡ (contains key_cmp keys.old q && not (is_of (run ∷ []) q.0)) }
+{
+    while let Some(key) = first_of(keys, run) {
+        drop_key(keys, &key);
+    }
+}
+
+/// Takes all keys of these runs away. It looks at these alone.
+pub fn let_go(keys: &mut Keys, runs: &[RunId])
+    ensures { (q : Key) → contains key_cmp keys.new q ≡ (contains key_cmp keys.old q && not (is_of runs.now q.0)) }
+{
+    for run in runs {
+        let_go_one(keys, run.get());
+    }
 }
 
 /// Moves the tasks that are marked behind those that wait.

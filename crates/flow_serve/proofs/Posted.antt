@@ -1,18 +1,21 @@
 -- What is posted, from board to board.
-use Rattle.std.proofs.Common.{◌≡◌, ◌||◌, ℕ, Bool, true, false, List, [], ◌∷◌, ◌++◌, length, refl, sym, ◌∙◌, subst, true≢false}
+use Rattle.std.proofs.Common.{◌≡◌, ◌&&◌, ◌||◌, not, ℕ, Bool, true, false, List, [], ◌∷◌, ◌++◌, length, map, refl, sym, ap, ◌∙◌, subst, true≢false}
 use mathlib.Core.List.{IsPrefix}
-use Rattle.std.specs.BTreeSet.{BTreeSet}
+use Rattle.std.specs.BTreeSet.{BTreeSet, contains}
 use Rattle.sqlite_trees.specs.declared.store.Store.{Ghosts}
 use Rattle.flow_base.specs.Keys.{Key, key_of}
 use Rattle.flow_base.specs.declared.submission.Receipt.{Receipt}
 use Rattle.flow_base.specs.declared.task.Task.{Task}
 use Rattle.flow_model.specs.Apply.{after}
 use Rattle.flow_model.specs.Book.{Book}
-use Rattle.flow_commit.specs.Boards.{AreAmong, Boarded, IsBoardOf, is_posted}
+use Rattle.flow_commit.specs.Boards.{AreAmong, AreStill, Boarded, IsBoardOf, is_posted}
 use Rattle.flow_commit.specs.Keeping.{Keeping, IsFit, logged, rules}
+use Rattle.flow_commit.specs.Over.{StayOver, is_over}
+use Rattle.flow_commit.specs.Shutting.{AreShut}
+use Rattle.flow_commit.proofs.Closing.{ready_same}
 use Rattle.flow_commit.proofs.Posting.{set_has}
-use Rattle.flow_queues.specs.Posting.{HasKeys, IsOnce, has_key, is_key, new_ones}
-use Rattle.flow_queues.proofs.Once.{still_once}
+use Rattle.flow_queues.specs.Posting.{HasStill, IsOnce, has_key, is_key, key_cmp, new_ones}
+use Rattle.flow_queues.proofs.Once.{key_is, key_itself, still_once}
 use Rattle.flow_hub.proofs.Growing.{prefix_self, prefix_trans}
 use Rattle.flow_engine.specs.Driving.{receipts_in}
 use Rattle.flow_queues.specs.declared.refused.Refused.{Refused}
@@ -20,6 +23,44 @@ use Rattle.flow_base.specs.declared.submission.Taken.{Taken}
 use Rattle.flow_engine.specs.Boarding.{IsStill}
 use Rattle.flow_serve.specs.Serving.{HasAnswered}
 use Rattle.flow_serve.specs.Posting.{ArePosted, IsKnown, Posts, WasBoard}
+
+---- The keys of all that was posted
+
+-- the board in the words of all that was posted, though its maker had the keys of what may still come
+abbrev pub whole_of : List Task → Boarded → Boarded
+whole_of was it = record it { posted = map key_of was }
+
+turned : (p q : Key) → is_key q p ≡ is_key p q
+turned p q = by (is_key p q) refl (is_key q p) refl
+  where
+    by : (v : Bool) → is_key p q ≡ v → (w : Bool) → is_key q p ≡ w → w ≡ v
+    by true own true back = refl
+    by true own false back = absurd (true≢false (sym (ap (is_key q) (key_is p q own) ∙ key_itself q) ∙ back))
+    by false own true back = absurd (true≢false (sym (ap (is_key p) (key_is q p back) ∙ key_itself p) ∙ own))
+    by false own false back = refl
+
+keys_have : (ts : List Task) (q : Key) → contains key_cmp (record { keys = map key_of ts }) q ≡ has_key ts q
+keys_have [] q = refl
+keys_have (t ∷ ts) q = ap (λ v. v || contains key_cmp (record { keys = map key_of ts }) q) (turned (key_of t) q) ∙ ap (λ v. is_key (key_of t) q || v) (keys_have ts q)
+
+all_posted : (ts : List Task) (q : Key) → is_posted (map key_of ts) q ≡ has_key ts q
+all_posted ts q = sym (set_has q (map key_of ts)) ∙ keys_have ts q
+
+-- of runs that aren't over the set knows all that was posted
+still_same : (gone all : List ℕ) (keys : BTreeSet Key) (was : List Task) (q : Key) → HasStill gone keys was → StayOver gone all → is_over all q.0 ≡ false → contains key_cmp keys q ≡ has_key was q
+still_same gone all keys was q has stay out = has q ∙ ap (λ v. has_key was q && not v) (apart (is_over gone q.0) refl) ∙ whole (has_key was q)
+  where
+    apart : (v : Bool) → is_over gone q.0 ≡ v → v ≡ false
+    apart true is = absurd (true≢false (sym (stay q.0 is) ∙ out))
+    apart false is = refl
+
+    whole : (a : Bool) → (a && true) ≡ a
+    whole true = refl
+    whole false = refl
+
+first : (a b : Bool) → (a && b) ≡ true → a ≡ true
+first true b e = refl
+first false b e = absurd (true≢false (sym e))
 
 module _ {S : Type 0} where
   -- what stands of an engine later: it has kept as much and more, over the same book, and was fit if it is
@@ -76,17 +117,25 @@ module _ {S : Type 0} where
   pub posts_once : (g : Ghosts S) (tells : ℕ → Type 0) (now : Keeping S) (was posted : List Task) → Posts g tells now was posted → IsOnce was → IsOnce posted
   posts_once g tells now was posted p once = are_once g tells now was posted p.boards p.are once
 
-  -- a board that was just made, of an engine that goes on
-  pub board_was : (g : Ghosts S) (tells : ℕ → Type 0) (old new : Keeping S) (was : List Task) (keys : BTreeSet Key) (at : ℕ) (it : Boarded) → tells at → new.log ≡ old.log → new.found ≡ old.found
-      → it.kept ≡ length old.log → it.posted ≡ keys.keys → HasKeys keys was → (IsFit g new → IsBoardOf (after rules old.found (logged old.log)) keys.keys at it) → WasBoard g tells new was it
-  board_was g tells old new was keys at it told log found kept posted has made = record {
+  -- A board that was just made, of an engine that goes on: what was posted of runs that are over makes no difference to it.
+  pub board_was : (g : Ghosts S) (tells : ℕ → Type 0) (old new : Keeping S) (was : List Task) (gone : List ℕ) (keys : BTreeSet Key) (at : ℕ) (it : Boarded) → tells at → new.log ≡ old.log → new.found ≡ old.found
+      → it.kept ≡ length old.log → HasStill gone keys was → StayOver gone old.over → (IsFit g new → AreShut old.over (after rules old.found (logged old.log)))
+      → (IsFit g new → IsBoardOf (after rules old.found (logged old.log)) keys.keys at it) → WasBoard g tells new was (whole_of was it)
+  board_was g tells old new was gone keys at it told log found kept has stay shut made = record {
     log = old.log;
     first = subst (λ (rs : List Receipt). IsPrefix old.log rs) (sym log) (prefix_self old.log);
     kept = kept;
     at = at;
     told = told;
-    posted = subst (λ (ks : List Key). HasKeys (record { keys = ks }) was) (sym posted) has;
-    made = λ fit. subst (λ (b : Book). IsBoardOf (after rules b (logged old.log)) it.posted at it) (sym found) (subst (λ (ks : List Key). IsBoardOf (after rules old.found (logged old.log)) ks at it) (sym posted) (made fit));
+    posted = keys_have was;
+    made = λ fit.
+        let b = after rules old.found (logged old.log) in
+        let its = made fit in
+        subst (λ (f : Book). IsBoardOf (after rules f (logged old.log)) (map key_of was) at (whole_of was it)) (sym found) (record {
+          tasks = its.tasks ∙ ready_same old.over keys.keys (map key_of was) at b (shut fit) (λ q out. sym (set_has q keys.keys) ∙ still_same gone old.over keys was q has stay out ∙ sym (all_posted was q));
+          due = its.due;
+          open_runs = its.open_runs;
+        });
   }
 
   pub still_later : (g : Ghosts S) (old new : Keeping S) → IsStill g old new → IsLater g old new
@@ -115,13 +164,13 @@ has_on (t ∷ ts) us q has = by (is_key (key_of t) q) (has_on ts us q) has
     by false on h = on h
 
 module _ {S : Type 0} where
-  -- a set of the keys of what is posted has those that were known
-  pub known_asked : (k : Keeping S) (posted : List Task) (keys : BTreeSet Key) → HasKeys keys posted → IsKnown k posted → k.halted ≡ false → AreAmong k.posted keys.keys
-  known_asked k posted keys has known goes q is = sym (set_has q keys.keys) ∙ (has q ∙ known goes q is)
+  -- a set of the keys of what is posted has those that were known, but for runs that are over
+  pub known_asked : (k : Keeping S) (gone : List ℕ) (posted : List Task) (keys : BTreeSet Key) → HasStill gone keys posted → StayOver gone k.over → IsKnown k posted → k.halted ≡ false → AreStill k.over k.posted keys.keys
+  known_asked k gone posted keys has stay known goes q is out = sym (set_has q keys.keys) ∙ (still_same gone k.over keys posted q has stay out ∙ known goes q is)
 
   -- and a board that was made with it knows no more
-  pub known_behind : (old new : Keeping S) (posted : List Task) (keys : BTreeSet Key) → HasKeys keys posted → new.halted ≡ old.halted → (old.halted ≡ false → AreAmong new.posted keys.keys) → IsKnown new posted
-  known_behind old new posted keys has same owes goes q is = sym (has q) ∙ (set_has q keys.keys ∙ owes (sym same ∙ goes) q is)
+  pub known_behind : (old new : Keeping S) (gone : List ℕ) (posted : List Task) (keys : BTreeSet Key) → HasStill gone keys posted → new.halted ≡ old.halted → (old.halted ≡ false → AreAmong new.posted keys.keys) → IsKnown new posted
+  known_behind old new gone posted keys has same owes goes q is = first (has_key posted q) (not (is_over gone q.0)) (sym (has q) ∙ (set_has q keys.keys ∙ owes (sym same ∙ goes) q is))
 
   -- more is posted
   pub known_more : (k : Keeping S) (was more posted : List Task) → posted ≡ was ++ more → IsKnown k was → IsKnown k posted

@@ -3,7 +3,7 @@ ghost use Rattle.std.specs.Prelude.{◌≡◌, ◌≤◌, true, false, [], List,
 ghost use Rattle.std.specs.Vec.{vec_capacity};
 ghost use Rattle.flow_base.specs.declared.fault.Fault.{Fault as AFault};
 ghost use Rattle.flow_base.specs.declared.submission.Taken.{Taken as ATaken};
-ghost use Rattle.flow_commit.specs.Boards.{AreAmong};
+ghost use Rattle.flow_commit.specs.Boards.{AreStill};
 ghost use Rattle.flow_commit.specs.Calls.{BoardSays};
 ghost use Rattle.flow_commit.specs.Keeping.{account_of};
 ghost use Rattle.flow_hub.specs.Knowing.{IsBefore};
@@ -97,7 +97,7 @@ fn ask_board<S: Alter>(
     at: Moment,
     again: bool,
 ) -> Result<Board, Fault>
-    requires still { again ≡ true → engine.old.halted ≡ false → AreAmong engine.old.posted posted.now.keys }
+    requires still { again ≡ true → engine.old.halted ≡ false → AreStill engine.old.over engine.old.posted posted.now.keys }
     ensures { BoardSays S.Store posted.now.keys at engine.old engine.new result }
 {
     if again {
@@ -234,6 +234,7 @@ fn turn_away<B: Room, R: Wait + time::Clock>(
     ensures ended { publisher.new.ended ≡ true }
     ensures none { publisher.new.held ≡ [] }
     ensures history { (publisher.new.history ≡ publisher.old.history) × (publisher.new.last ≡ publisher.old.last) }
+    ensures gone { publisher.new.gone ≡ publisher.old.gone }
     ensures posted { publisher.new.posted ≡ publisher.old.posted }
     ensures skipped { SkipsFor fault.now publisher.old.skipped publisher.new.skipped }
     ensures whole { TakesAll most publisher.old publisher.new }
@@ -262,7 +263,8 @@ fn turn_away<B: Room, R: Wait + time::Clock>(
 /// waits by `Submitter::next_tick` brings within a minute.
 ///
 /// By the caller's condition the publisher has published what the engine has kept, as it is of an engine that has kept no
-/// batch since it was opened and a publisher that has published none.
+/// batch since it was opened and a publisher that has published none; and the runs whose keys it has let go of, if there are any,
+/// are over for this engine.
 ///
 /// # Failure
 /// E01 before anything is taken: the hub is closed, and all that waits is answered E85. Room for later lists is asked for

@@ -2,8 +2,9 @@
 ghost use Rattle.std.specs.Prelude.{◌≡◌, ◌⊎◌, false, true, ◌∷◌, ◌++◌, length, IfSome, IfErr, IfNone, IsErr, OnOk, OnErr, MatchOption, None, Some, IsTrue};
 ghost use mathlib.Core.List.{IsPrefix};
 ghost use Rattle.flow_hub.specs.Halls.{posted_on, skipped, gave, rings, hears, looks};
+ghost use Rattle.flow_commit.specs.Over.{StayOver};
 ghost use Rattle.flow_hub.specs.Knowing.{IsBefore, IsSamePart, answered_in, nothing};
-ghost use Rattle.flow_queues.specs.Posting.{HasKeys, IsOnce};
+ghost use Rattle.flow_queues.specs.Posting.{HasStill, IsOnce};
 ghost use Rattle.flow_hub.specs.Publishing.{HasPosted, HasSkipped};
 ghost use Rattle.flow_hub.specs.Ending.{HasCome, IsAwaited};
 ghost use Rattle.flow_hub.specs.Feeding.{HasGiven, IsIdle, IsRested, due_in};
@@ -23,7 +24,7 @@ use flow_queues::posting::{Keys, add_all, push_marked};
 use std::alloc::{AllocError, Global};
 
 impl<B: Room> State<B> {
-    /// Posts those of the board's tasks that weren't posted before, and joins their keys to those of all that was: whoever waits for a
+    /// Posts those of the board's tasks that weren't posted before, and joins their keys to those of what was: whoever waits for a
     /// board is to be woken. Where room for them is refused the board comes back, and nothing is posted.
     pub(crate) fn post(
         &mut self,
@@ -34,11 +35,12 @@ impl<B: Room> State<B> {
         board: Board,
     ) -> (Pass<B>, Result<WakeByBoard, (Board, AllocError)>)
         requires seat { IsPublishers me }
-        requires keys { HasKeys keys.old me.was.posted }
+        requires keys { HasStill me.was.gone keys.old me.was.posted }
+        requires gone { StayOver me.was.gone board.over }
         ensures posted { OnOk result.1 (self.new ≡ posted_on self.old board.tasks
             (record { due = board.due; open_runs = board.open_runs })) }
         ensures refused { IfErr result.1 (λ e. (e.0 ≡ board) × (self.new ≡ self.old)) }
-        ensures keys { HasKeys keys.new result.0.was.posted }
+        ensures keys { HasStill result.0.was.gone keys.new result.0.was.posted }
         ensures seat { result.0 ≡ seeing true false 0 self.new.known }
         ensures seen { OnOk result.1 (HasPosted me.was result.0.was board) }
         ensures part { OnErr result.1 (IsSamePart me.was result.0.was) }

@@ -63,7 +63,7 @@ returns-clause-together g c =
     let two = c.skip-2.ensures.skipped.rest in
     let was = c.try_board-2.ensures.together in
     together_still (account_of g.S.Store c.try_board-2.new.engine) c.try_board-2.new.publisher c.skip-2.new.self was
-    (two.history ∙ one.history) (two.last ∙ one.last) (two.held ∙ (one.held ∙ was.none))
+    (two.history ∙ one.history) (two.last ∙ one.last) (two.gone ∙ one.gone) (two.held ∙ (one.held ∙ was.none))
 
 pub returns-clause-boarded : goal.returns-clause-boarded
 returns-clause-boarded g c = c.skip-2.ensures.skipped.boarded

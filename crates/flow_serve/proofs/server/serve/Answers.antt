@@ -64,13 +64,13 @@ pub returns-in-Err-serve_all-clause-together : goal.returns-in-Err-serve_all-cla
 returns-in-Err-serve_all-clause-together g c =
     let t = c.turn_away.ensures in
     together_still (account_of g.S.Store c.serve_all.new.engine) c.serve_all.new.publisher c.turn_away.new.publisher
-    c.serve_all.ensures.together t.history.0 t.history.1 t.none
+    c.serve_all.ensures.together t.history.0 t.history.1 t.gone t.none
 
 pub returns-in-Err-clause-together : goal.returns-in-Err-clause-together
 returns-in-Err-clause-together g c =
     let t = c.turn_away-in-Err.ensures in
     together_still (account_of g.S.Store c.args.engine.now) c.args.publisher.now c.turn_away-in-Err.new.publisher
-    c.requires.together t.history.0 t.history.1 t.none
+    c.requires.together t.history.0 t.history.1 t.gone t.none
 
 pub returns-in-Err-serve_all-clause-found : goal.returns-in-Err-serve_all-clause-found
 returns-in-Err-serve_all-clause-found g c = c.serve_all.ensures.found

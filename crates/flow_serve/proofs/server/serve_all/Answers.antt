@@ -5,6 +5,7 @@ use Rattle.flow_commit.specs.Keeping.{account_of}
 use Rattle.flow_queues.specs.declared.refused.Refused.{Refused}
 use Rattle.flow_hub.specs.Knowing.{IsOver}
 use Rattle.flow_hub.proofs.Growing.{before_trans}
+use Rattle.flow_hub.proofs.Serving.{stays_by}
 use Rattle.flow_hub.proofs.Sound.{takes_none, takes_then}
 use Rattle.flow_serve.specs.Serving.{GivesUp, HasAnswered, IsBatch, StopsAt}
 use Rattle.flow_serve.proofs.Posted.{answered_later, known_still, later_self, posts_still, posts_then, still_later}
@@ -196,6 +197,7 @@ commit_taken-requires g c =
       hand = record {
         log = i.log ∙ sym t.history;
         over = subst (λ ks. IsOver ks (account_of g.S.Store c.loop.engine ∷ [])) (sym t.last) i.over;
+        gone = stays_by c.loop.publisher.gone c.take.new.self.gone c.loop.engine.over t.gone i.gone;
         taken = t.held ∙ (ap (λ (ts : List Taken). ts ++ c.take.new.into.items) i.none ∙ sym c.of.ensures);
       };
     }
@@ -218,7 +220,7 @@ returns-then-not-take-clause-together g c =
     let i = c.loop.invariant.together in
     let t = c.take.ensures.taken in
     let none = c.take.ensures.none c.if-not-take.true in
-    together_still (account_of g.S.Store c.loop.engine) c.loop.publisher c.take.new.self i t.history t.last
+    together_still (account_of g.S.Store c.loop.engine) c.loop.publisher c.take.new.self i t.history t.last t.gone
     (t.held ∙ (ap (λ (ts : List Taken). ts ++ c.take.new.into.items) i.none ∙ none.0))
 
 pub returns-then-not-take-clause-given_up : goal.returns-then-not-take-clause-given_up

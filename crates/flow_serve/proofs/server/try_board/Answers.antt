@@ -2,7 +2,7 @@ use Rattle.std.proofs.Common.{refl, sym}
 use Rattle.flow_hub.proofs.Growing.{same_part}
 use Rattle.flow_hub.proofs.Serving.{boarded_together, is_fresh, same_history}
 use Rattle.flow_commit.specs.Keeping.{account_of}
-use Rattle.flow_serve.proofs.Posted.{board_was, known_asked, known_behind, known_more, known_still, posts_none, posts_one}
+use Rattle.flow_serve.proofs.Posted.{board_was, known_asked, known_behind, known_more, known_still, posts_none, posts_one, whole_of}
 use Rattle.flow_engine.proofs.Boarding.{board_still}
 use Rattle.flow_serve.proofs.Serving.{same_base}
 use Rattle.flow_serve.proofs.Turning.{no_memory_board}
@@ -10,50 +10,53 @@ use Rattle.flow_serve.proofs.server.try_board.Goals as goal
 
 -- what the last board found posted is posted still
 pub ask_board-requires : goal.ask_board-requires
-ask_board-requires g c = record { still = λ again goes. known_asked c.args.engine.now c.args.publisher.now.posted c.posted.result.now c.posted.ensures (c.requires.known again) goes }
+ask_board-requires g c = record {
+  still = λ again goes.
+      known_asked c.args.engine.now c.args.publisher.now.gone c.args.publisher.now.posted c.posted.result.now c.posted.ensures c.requires.together.gone (c.requires.known again) goes;
+}
 
 pub returns-in-Ok-post-clause-known : goal.returns-in-Ok-post-clause-known
 returns-in-Ok-post-clause-known g c =
     let was = c.args.publisher.now.posted in
     known_more c.ask_board.new.engine was _ c.post.new.self.posted c.in-Ok-post.ensures.posted.posted
-    (known_behind c.args.engine.now c.ask_board.new.engine was c.posted.result.now c.posted.ensures c.ask_board.ensures.stayed.same.0 c.ask_board.ensures.owes)
+    (known_behind c.args.engine.now c.ask_board.new.engine c.args.publisher.now.gone was c.posted.result.now c.posted.ensures c.ask_board.ensures.stayed.same.0 c.ask_board.ensures.owes)
 
 pub returns-in-Err-post-clause-known : goal.returns-in-Err-post-clause-known
 returns-in-Err-post-clause-known g c =
     let was = c.args.publisher.now.posted in
     let new = c.ask_board.new.engine in
     known_still new new was c.post.new.self.posted refl (sym c.in-Err-post.ensures.refused.1.posted) (λ goes. goes)
-    (known_behind c.args.engine.now new was c.posted.result.now c.posted.ensures c.ask_board.ensures.stayed.same.0 c.ask_board.ensures.owes)
+    (known_behind c.args.engine.now new c.args.publisher.now.gone was c.posted.result.now c.posted.ensures c.ask_board.ensures.stayed.same.0 c.ask_board.ensures.owes)
 
 pub returns-in-Err-clause-known : goal.returns-in-Err-clause-known
 returns-in-Err-clause-known g c =
-    known_behind c.args.engine.now c.ask_board.new.engine c.args.publisher.now.posted c.posted.result.now c.posted.ensures c.ask_board.ensures.stayed.same.0 c.ask_board.ensures.owes
+    known_behind c.args.engine.now c.ask_board.new.engine c.args.publisher.now.gone c.args.publisher.now.posted c.posted.result.now c.posted.ensures c.ask_board.ensures.stayed.same.0 c.ask_board.ensures.owes
 
 -- the board was made of what is kept, which is what is published
 pub post-requires : goal.post-requires
 post-requires g c =
-    record { fresh = is_fresh (account_of g.S.Store c.args.engine.now) c.args.publisher.now c.in-Ok.board c.posted.result.now c.requires.together c.posted.ensures c.in-Ok.ensures.counted c.in-Ok.ensures.names.1 }
+    record { fresh = is_fresh (account_of g.S.Store c.args.engine.now) c.args.publisher.now c.in-Ok.board c.posted.result.now c.requires.together c.posted.ensures c.in-Ok.ensures.counted c.in-Ok.ensures.names.1 c.in-Ok.ensures.over.0 }
 
 -- nothing more is kept, and nothing published
 pub returns-in-Ok-post-clause-together : goal.returns-in-Ok-post-clause-together
 returns-in-Ok-post-clause-together g c =
     let same = c.ask_board.ensures.stayed.same in
     let base = same_base g.S.Store c.args.engine.now c.ask_board.new.engine same.2 c.ask_board.ensures.stayed.follows.0 in
-    boarded_together (account_of g.S.Store c.args.engine.now) (account_of g.S.Store c.ask_board.new.engine) c.args.publisher.now c.post.new.self c.requires.together same.3 base c.in-Ok-post.ensures.posted.rest
+    boarded_together (account_of g.S.Store c.args.engine.now) (account_of g.S.Store c.ask_board.new.engine) c.args.publisher.now c.post.new.self c.requires.together same.3 base c.ask_board.ensures.stayed.over c.in-Ok-post.ensures.posted.rest
 
 pub returns-in-Err-post-clause-together : goal.returns-in-Err-post-clause-together
 returns-in-Err-post-clause-together g c =
     let same = c.ask_board.ensures.stayed.same in
     let base = same_base g.S.Store c.args.engine.now c.ask_board.new.engine same.2 c.ask_board.ensures.stayed.follows.0 in
     let was = c.args.publisher.now in
-    boarded_together (account_of g.S.Store c.args.engine.now) (account_of g.S.Store c.ask_board.new.engine) was c.post.new.self c.requires.together same.3 base (same_history was c.post.new.self c.in-Err-post.ensures.refused.1)
+    boarded_together (account_of g.S.Store c.args.engine.now) (account_of g.S.Store c.ask_board.new.engine) was c.post.new.self c.requires.together same.3 base c.ask_board.ensures.stayed.over (same_history was c.post.new.self c.in-Err-post.ensures.refused.1)
 
 pub returns-in-Err-clause-together : goal.returns-in-Err-clause-together
 returns-in-Err-clause-together g c =
     let same = c.ask_board.ensures.stayed.same in
     let base = same_base g.S.Store c.args.engine.now c.ask_board.new.engine same.2 c.ask_board.ensures.stayed.follows.0 in
     let was = c.args.publisher.now in
-    boarded_together (account_of g.S.Store c.args.engine.now) (account_of g.S.Store c.ask_board.new.engine) was was c.requires.together same.3 base (same_history was was (same_part was))
+    boarded_together (account_of g.S.Store c.args.engine.now) (account_of g.S.Store c.ask_board.new.engine) was was c.requires.together same.3 base c.ask_board.ensures.stayed.over (same_history was was (same_part was))
 
 pub returns-in-Ok-post-clause-still : goal.returns-in-Ok-post-clause-still
 returns-in-Ok-post-clause-still g c =
@@ -79,8 +82,9 @@ returns-in-Ok-post-clause-posts g c =
     let was = c.args.publisher.now.posted in
     let b = c.in-Ok.ensures in
     let it = c.in-Ok.board in
-    let made = board_was g.S.Store tells old new was c.posted.result.now c.now.result it c.now.ensures c.ask_board.ensures.stayed.same.3 c.ask_board.ensures.stayed.same.2 b.counted b.names.1 c.posted.ensures b.behind in
-    posts_one g.S.Store tells new was c.post.new.self.posted it made c.in-Ok-post.ensures.posted.posted
+    let made = board_was g.S.Store tells old new was c.args.publisher.now.gone c.posted.result.now c.now.result it c.now.ensures c.ask_board.ensures.stayed.same.3 c.ask_board.ensures.stayed.same.2 b.counted c.posted.ensures
+    c.requires.together.gone b.shut b.behind in
+    posts_one g.S.Store tells new was c.post.new.self.posted (whole_of was it) made c.in-Ok-post.ensures.posted.posted
 
 pub returns-in-Err-post-clause-posts : goal.returns-in-Err-post-clause-posts
 returns-in-Err-post-clause-posts g c = posts_none g.S.Store (g.C.Clock.tells c.args.clock.now) c.ask_board.new.engine c.args.publisher.now.posted c.post.new.self.posted (sym c.in-Err-post.ensures.refused.1.posted)
@@ -95,10 +99,10 @@ returns-in-Ok-post-clause-tried g c =
     let b = c.in-Ok.ensures in
     let it = c.in-Ok.board in
     record {
-      board = it;
-      made = board_was g.S.Store tells c.args.engine.now c.ask_board.new.engine c.args.publisher.now.posted c.posted.result.now c.now.result it
+      board = whole_of c.args.publisher.now.posted it;
+      made = board_was g.S.Store tells c.args.engine.now c.ask_board.new.engine c.args.publisher.now.posted c.args.publisher.now.gone c.posted.result.now c.now.result it
           c.now.ensures c.ask_board.ensures.stayed.same.3 c.ask_board.ensures.stayed.same.2
-          b.counted b.names.1 c.posted.ensures b.behind;
+          b.counted c.posted.ensures c.requires.together.gone b.shut b.behind;
       is = c.in-Ok-post.ensures.posted.posted;
     }
 
