@@ -11,19 +11,18 @@ use Rattle.flow_maps.specs.Agenda.{tasks_at, tasks_of as tasks_in_run}
 use Rattle.flow_maps.specs.Outlooks.{Waiting, is_by, ready_by, waiting}
 use Rattle.flow_maps.specs.Timers.{of_run}
 use Rattle.flow_maps.proofs.Sooner.{waits_at}
-use Rattle.flow_tables.specs.Owned.{Stored, IsFit, IsUp, Follows, Keeps, kept_book, state_of}
+use Rattle.flow_tables.specs.Owned.{Stored, IsFit, IsUp, Keeps, state_of}
 use Rattle.flow_commit.specs.Boards.{AreStill, Call, WerePosted, call_at, flow_at, is_new, is_posted, names_over, ready_tasks, task_at, task_with, tasks_of}
 use Rattle.flow_commit.specs.Looking.{HasLooked}
-use Rattle.flow_commit.specs.Over.{StayOver, is_over}
+use Rattle.flow_commit.specs.Over.{is_over}
 use Rattle.flow_commit.specs.Shutting.{AreShut, HasShut, IsShut}
-use Rattle.flow_commit.proofs.Following.{fit_before, keeps_behind, up_before}
 use Rattle.flow_commit.proofs.Seating.{one_kept}
-use Rattle.flow_commit.proofs.Stretches.{not_true}
 
 ---- In a book
 
-pub shut_some : (some all : List ℕ) (b : Book) → StayOver some all → AreShut all b → AreShut some b
-shut_some some all b stay shut n is = shut n (stay n is)
+not_true : (b : Bool) → (b ≡ true → ⊥) → b ≡ false
+not_true true h = absurd (h refl)
+not_true false h = refl
 
 -- a run that is shut has no activity
 none_at : (b : Book) (n : ℕ) → IsShut b.runs n → tasks_at b n ≡ []
@@ -86,24 +85,9 @@ module _ {S : Type 0} (g : Ghosts S) where
   pub none_shut : (t : Stored S) → HasShut g t []
   none_shut t fit up b keeps n is = absurd (true≢false (sym is))
 
-  pub has_some : (t : Stored S) (some all : List ℕ) → StayOver some all → HasShut g t all → HasShut g t some
-  has_some t some all stay shut fit up b keeps = shut_some some all b stay (shut fit up b keeps)
-
   -- of the one book that an open connection keeps
   pub shut_at : (t : Stored S) (over : List ℕ) (first : Book) → (IsFit g t → IsUp g t → Keeps (state_of g t) first × AreShut over first) → HasShut g t over
   shut_at t over first one fit up b keeps = let it = one fit up in subst (AreShut over) (one_kept g t first b up it.0 keeps) it.1
-
-  -- where the same book is kept
-  pub shut_still : (old new : Stored S) (over : List ℕ) → (IsFit g new → IsFit g old) → (IsFit g new → IsUp g new → IsUp g old) → (IsFit g new → IsUp g old → Keeps (state_of g old) (kept_book g old))
-      → (IsFit g new → (b : Book) → Keeps (state_of g old) b → Keeps (state_of g new) b) → HasShut g old over → HasShut g new over
-  shut_still old new over was_fit was_up own stays shut = shut_at new over (kept_book g old) (λ fit up.
-      let before = was_up fit up in
-      let held = own fit before in
-      (stays fit (kept_book g old) held, shut (was_fit fit) before (kept_book g old) held))
-
-  pub shut_behind : (old new : Stored S) (over : List ℕ) → Follows g old new → (IsFit g new → IsUp g old → Keeps (state_of g old) (kept_book g old)) → HasShut g old over → HasShut g new over
-  shut_behind old new over follows own =
-      shut_still old new over (λ fit. fit_before g old new follows fit) (λ fit up. up_before g old new follows fit up) own (λ fit b keeps. keeps_behind g old new follows fit b keeps)
 
   -- What was posted of such runs needn't be: the rest was, so what was looked at is.
   pub looked_still : (t : Stored S) (since : ℕ) (over : List ℕ) (some all : List Key) → AreStill over some all → HasShut g t over → HasLooked g t since some → HasLooked g t since all

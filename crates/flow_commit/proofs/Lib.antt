@@ -1,4 +1,3 @@
-pub mod Stretches
 pub mod Shut
 pub mod Following
 pub mod Ends
@@ -9,6 +8,7 @@ pub mod Sealing
 pub mod Seating
 pub mod Looking
 pub mod Closing
+pub mod Overs
 pub mod BoardRows
 pub mod Refusing
 pub mod Handed

@@ -1,6 +1,9 @@
 -- A run that a command has closed has nothing open in any later book.
-use Rattle.std.proofs.Common.{◌≡◌, ◌⊎◌, inl, inr, ◌+◌, ◌-◌, ℕ, zero, suc, Bool, true, false, cond, ◌||◌, List, [], ◌∷◌, ◌++◌, length, map, max, Option, Some, None, Result, Ok, Err, slice_set, nat_eq, refl, sym, ap, ◌∙◌, subst, arith, append_assoc, true≢false}
+use Rattle.std.proofs.Common.{◌≡◌, ◌⊎◌, inl, inr, ◌+◌, ◌-◌, ℕ, zero, suc, Bool, true, false, cond, ◌||◌, List, [], ◌∷◌, ◌++◌, length, map, max, Option, Some, None, Result, Ok, Err, slice_get, slice_set, nat_eq, refl, sym, ap, ◌∙◌, subst, arith, append_assoc, true≢false}
 use Rattle.std.specs.Prelude.{nat_le, nat_lt, if◌then◌else◌}
+use Rattle.std.specs.Ordering.{nat_cmp, is_eq}
+use Rattle.std.proofs.Common.{Ordering, Less, Equal, Greater}
+use Rattle.std.proofs.lemmas.Cmp.{ranked}
 use Rattle.std.proofs.lemmas.Bool.{eqb-true, eqb-false}
 use Rattle.std.proofs.lemmas.Option.{none-some, same_Some}
 use Rattle.flow_base.specs.Syntax.{Bytes, Program}
@@ -36,19 +39,49 @@ use Rattle.flow_model.specs.Turned.{turned, position_by_inputs, traces, turn_eve
 use Rattle.flow_model.specs.Open.{tasks_after, tasks_by, timers_left, state_after, state_after_one, state_of, moment_of, open_timers}
 use Rattle.flow_model.specs.Verdict.{verdict}
 use Rattle.flow_model.specs.Book.{Book, nth, text_number, requested, open_run, signalled, least_due, changed, changed_by, with_run, with_turn, with_attempt, with_text, at_attempt, unbegun_run}
-use Rattle.flow_model.specs.Apply.{Rules, Outcome, says, none_there, must_be, must_hold, tested, if_sound, program_if, program_at, first_turn, continued, run_from, next_run, history_limit, turn_made, recorded, input_recorded, report_refusal, gives_kind, refuse_unless, on_task, task_at, tries_of, failure_refusal, on_program, register, start, signal_recorded, signal, complete, ready_after, retried, attempt_failed, fail, terminated, terminate, if_stands, upgrade, describe, history, list_open, outcome, fired, firings, firing_limit, on_due, tick}
+use Rattle.flow_model.specs.Apply.{Rules, Outcome, says, none_there, must_be, must_hold, tested, if_sound, program_if, program_at, first_turn, continued, run_from, next_run, history_limit, turn_made, recorded, input_recorded, report_refusal, gives_kind, refuse_unless, on_task, task_at, tries_of, failure_refusal, on_program, register, start, signal_recorded, signal, complete, ready_after, retried, attempt_failed, fail, terminated, terminate, if_stands, upgrade, describe, history, list_open, outcome, after, after_one, fired, firings, firing_limit, on_due, tick}
 use Rattle.flow_model.proofs.DueFirst.{Has as Among, InRuns, IsLeast, runs_least}
 use Rattle.flow_model.proofs.Logs.{nth_at}
-use Rattle.flow_maps.proofs.Planning.{other_set, own_set}
 use Rattle.flow_machine.specs.Deciding.{Decides}
 use Rattle.flow_machine.proofs.Heard.{open_is_there}
 use Rattle.flow_machine.proofs.Places.{get_past, nth_kept}
 use Rattle.flow_machine.proofs.Ticks.{changed_append, fired_book, goes_on}
 use Rattle.flow_commit.specs.Over.{is_over, is_same}
 use Rattle.flow_commit.specs.Shutting.{AreShut, IsShut, ends, ends_at, ends_behind, ends_by, shut_by, shut_in, started_by}
-use Rattle.flow_commit.proofs.Stretches.{or_false, over_both, same_is}
 
 ---- Runs by their numbers
+
+or_false : (a : Bool) → (a || false) ≡ a
+or_false true = refl
+or_false false = refl
+
+or_assoc : (a b c : Bool) → (a || (b || c)) ≡ ((a || b) || c)
+or_assoc true b c = refl
+or_assoc false b c = refl
+
+same_is : (n m : ℕ) → is_same n m ≡ true → n ≡ m
+same_is n m h = by (nat_cmp n m) refl h
+  where
+    by : (o : Ordering) → o ≡ nat_cmp n m → is_eq o ≡ true → n ≡ m
+    by Less is e = absurd (true≢false (sym e))
+    by Equal is e = ranked n m Equal is
+    by Greater is e = absurd (true≢false (sym e))
+
+pub over_both : (xs ys : List ℕ) (n : ℕ) → is_over (xs ++ ys) n ≡ (is_over xs n || is_over ys n)
+over_both [] ys n = refl
+over_both (x ∷ xs) ys n = ap (λ b. is_same x n || b) (over_both xs ys n) ∙ or_assoc (is_same x n) (is_over xs n) (is_over ys n)
+
+own_set : (rs : List Run) (i : ℕ) (x y : Run) → slice_get rs i ≡ Some x → slice_get (slice_set rs i y) i ≡ Some y
+own_set [] i x y there = absurd (none-some x there)
+own_set (r ∷ rs) zero x y there = refl
+own_set (r ∷ rs) (suc i) x y there = own_set rs i x y there
+
+other_set : (rs : List Run) (i j : ℕ) (y : Run) → (i ≡ j → ⊥) → slice_get (slice_set rs i y) j ≡ slice_get rs j
+other_set [] i j y apart = refl
+other_set (r ∷ rs) zero zero y apart = absurd (apart refl)
+other_set (r ∷ rs) zero (suc j) y apart = refl
+other_set (r ∷ rs) (suc i) zero y apart = refl
+other_set (r ∷ rs) (suc i) (suc j) y apart = other_set rs i j y (λ e. apart (ap suc e))
 
 nth_own : (rs : List Run) (n : ℕ) (x y : Run) → nth rs n ≡ Some x → nth (slice_set rs (n - 1) y) n ≡ Some y
 nth_own rs zero x y there = absurd (none-some x there)
@@ -544,16 +577,20 @@ module _ (u : Rules) (b : Book) where
   goes (command.Open from most) = goes_by (list_open u.program_of b from most) (list_has u b from most)
 
 -- Behind one more command what was shut is so, and what it closes.
-pub shut_decided : (u : Rules) (over before now : List ℕ) (old new : Book) (r : Reply) (changes : List Change) (c : Command) → Decides old new r changes (outcome u old c) → now ≡ before ++ shut_in r changes
-    → AreShut (over ++ before) old → AreShut (over ++ now) new
-shut_decided u over before now old new r changes c d is shut n among =
+pub shut_decided : (u : Rules) (before now : List ℕ) (old new : Book) (r : Reply) (changes : List Change) (c : Command) → Decides old new r changes (outcome u old c) → now ≡ before ++ shut_in r changes
+    → AreShut before old → AreShut now new
+shut_decided u before now old new r changes c d is shut n among =
     let o = outcome u old c in
-    let whole : over ++ now ≡ (over ++ before) ++ shut_in o.reply o.changes =
-    ap (λ xs. over ++ xs) is ∙ sym (append_assoc over before (shut_in r changes)) ∙ ap (λ xs. (over ++ before) ++ xs) (λ i. shut_in (d.reply_is i) (d.changes_are i)) in
+    let whole : now ≡ before ++ shut_in o.reply o.changes = is ∙ ap (λ xs. before ++ xs) (λ i. shut_in (d.reply_is i) (d.changes_are i)) in
     subst (λ (k : Book). IsShut k.runs n) (sym d.book_is)
-    (goes u old c n (either (is_over (over ++ before) n) refl (sym (over_both (over ++ before) (shut_in o.reply o.changes) n) ∙ ap (λ xs. is_over xs n) (sym whole) ∙ among)))
+    (goes u old c n (either (is_over before n) refl (sym (over_both before (shut_in o.reply o.changes) n) ∙ ap (λ xs. is_over xs n) (sym whole) ∙ among)))
   where
-    either : (v : Bool) → is_over (over ++ before) n ≡ v → (v || is_over (shut_in (outcome u old c).reply (outcome u old c).changes) n) ≡ true
+    either : (v : Bool) → is_over before n ≡ v → (v || is_over (shut_in (outcome u old c).reply (outcome u old c).changes) n) ≡ true
         → IsShut old.runs n ⊎ (is_over (shut_in (outcome u old c).reply (outcome u old c).changes) n ≡ true)
     either true e h = inl (shut n e)
     either false e h = inr h
+
+-- Behind any commands what was shut is so.
+pub stays_shut : (u : Rules) (b : Book) (cs : List Command) (over : List ℕ) → AreShut over b → AreShut over (after u b cs)
+stays_shut u b [] over shut = shut
+stays_shut u b (c ∷ cs) over shut = stays_shut u (after_one u b c) cs over (λ n is. goes u b c n (inl (shut n is)))

@@ -54,19 +54,18 @@ pub record Based : Type 0 where
   pub found : Book
   pub opened : HandedIn
 
--- What a keeper has kept: what it was made over, whether the disk has told no lie so far, how many commands it has kept, their receipts,
--- and which runs have closed since.
+-- What a keeper has kept: what it was made over, whether the disk has told no lie so far, how many commands it has kept, and their
+-- receipts.
 pub record Accounted : Type 0 where
   pub base : Based
   pub clean : Bool
   pub kept : ℕ
   pub log : List Receipt
-  pub over : List ℕ
 
 abbrev pub account_code : Coded Accounted
 account_code =
-    code_by (Book × (HandedIn × (Bool × (ℕ × (List Receipt × List ℕ))))) (coded× book_code (coded× handed_code (coded× coded_bool (coded× coded_ℕ (coded× log_code (coded_list coded_ℕ))))))
-    (λ a. (a.base.found, (a.base.opened, (a.clean, (a.kept, (a.log, a.over)))))) (λ p. record { base = record { found = p.0; opened = p.1.0 }; clean = p.1.1.0; kept = p.1.1.1.0; log = p.1.1.1.1.0; over = p.1.1.1.1.1 }) (λ _. refl)
+    code_by (Book × (HandedIn × (Bool × (ℕ × List Receipt)))) (coded× book_code (coded× handed_code (coded× coded_bool (coded× coded_ℕ log_code))))
+    (λ a. (a.base.found, (a.base.opened, (a.clean, (a.kept, a.log))))) (λ p. record { base = record { found = p.0; opened = p.1.0 }; clean = p.1.1.0; kept = p.1.1.1.0; log = p.1.1.1.1 }) (λ _. refl)
 
 abbrev pub no_account : Accounted
-no_account = record { base = record { found = no_book; opened = record { clean = false; schema = no_schema; catalog = []; rows = [] } }; clean = false; kept = 0; log = []; over = [] }
+no_account = record { base = record { found = no_book; opened = record { clean = false; schema = no_schema; catalog = []; rows = [] } }; clean = false; kept = 0; log = [] }

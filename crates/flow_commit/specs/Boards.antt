@@ -1,5 +1,5 @@
 -- What a board names: the tasks that are ready and weren't posted, and what else whoever posts them needs to know.
-use Rattle.std.specs.Prelude.{◌≡◌, ℕ, ◌+◌, ◌<◌, Bool, true, ◌&&◌, not, ◌++◌, List, [], ◌∷◌, filter, Option, Some, None, nat_eq, nat_lt, if◌then◌else◌, refl}
+use Rattle.std.specs.Prelude.{◌≡◌, ℕ, ◌+◌, ◌<◌, Bool, true, false, ◌&&◌, not, ◌++◌, List, [], ◌∷◌, filter, Option, Some, None, nat_eq, nat_lt, if◌then◌else◌, refl}
 use Rattle.std.specs.Coded.{Coded, code_by, coded×, coded_ℕ, coded_list, coded_option}
 use Rattle.std.specs.List.{list_any}
 use Rattle.flow_base.specs.Syntax.{Bytes}
@@ -29,20 +29,19 @@ use Rattle.flow_base.specs.declared.task.Task.{Task}
 use Rattle.flow_base.specs.contracts.task.Task as task_row
 
 -- The tasks in order of run and event, the moment at which more is to be done, and how many runs are open; behind which commands it
--- was made, by their number, and for contracts alone what was posted then, and which runs were over.
+-- was made, by their number, and for contracts alone what was posted then.
 pub record Boarded : Type 0 where
   pub tasks : List Task
   pub due : Option ℕ
   pub open_runs : ℕ
   pub kept : ℕ
   pub posted : List Key
-  pub over : List ℕ
 
 abbrev pub boarded_code : Coded Boarded
 boarded_code =
-    code_by (List Task × (Option ℕ × (ℕ × (ℕ × (List Key × List ℕ))))) (coded× (coded_list task_row.the_row.coded) (coded× (coded_option coded_ℕ) (coded× coded_ℕ (coded× coded_ℕ (coded× (coded_list key_code) (coded_list coded_ℕ))))))
-    (λ b. (b.tasks, (b.due, (b.open_runs, (b.kept, (b.posted, b.over))))))
-    (λ p. record { tasks = p.0; due = p.1.0; open_runs = p.1.1.0; kept = p.1.1.1.0; posted = p.1.1.1.1.0; over = p.1.1.1.1.1 }) (λ _. refl)
+    code_by (List Task × (Option ℕ × (ℕ × (ℕ × List Key)))) (coded× (coded_list task_row.the_row.coded) (coded× (coded_option coded_ℕ) (coded× coded_ℕ (coded× coded_ℕ (coded_list key_code)))))
+    (λ b. (b.tasks, (b.due, (b.open_runs, (b.kept, b.posted)))))
+    (λ p. record { tasks = p.0; due = p.1.0; open_runs = p.1.1.0; kept = p.1.1.1.0; posted = p.1.1.1.1 }) (λ _. refl)
 
 ---- What a book gives out to be done
 
@@ -146,11 +145,11 @@ AllWerePosted posted since b = (n : ℕ) → WerePosted posted since n (tasks_at
 abbrev pub AreAmong : List Key → List Key → Type 0
 AreAmong some all = (q : Key) → is_posted some q ≡ true → is_posted all q ≡ true
 
--- those of runs that aren't over are
+-- and those of other runs than these are
 abbrev pub AreStill : List ℕ → List Key → List Key → Type 0
 AreStill over some all = (q : Key) → is_posted some q ≡ true → is_over over q.0 ≡ false → is_posted all q ≡ true
 
--- whether one of the tasks is of a run that is over
+-- whether one of the tasks is of such a run
 abbrev pub names_over : List ℕ → List Task → Bool
 names_over over ts = list_any (λ (t : Task). is_over over t.run) ts
 

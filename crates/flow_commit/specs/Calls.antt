@@ -1,5 +1,5 @@
 -- What the calls of a keeper say, each in one word. An engine says the same of the keeper that it has.
-use Rattle.std.specs.Prelude.{◌≡◌, ◌⊎◌, ◌≤◌, ◌^◌, ℕ, true, false, List, length, Result, Err, IfOk, IfErr, OnOk}
+use Rattle.std.specs.Prelude.{◌≡◌, ◌⊎◌, ◌≤◌, ◌^◌, ℕ, true, false, List, length, Result, Err, IfOk, IfErr}
 use Rattle.sqlite_trees.specs.declared.store.Store.{Ghosts}
 use Rattle.flow_base.specs.declared.fault.Fault.{Fault}
 use Rattle.flow_base.specs.declared.fault.Fault.TheVariants as faults
@@ -18,8 +18,7 @@ use Rattle.flow_commit.specs.declared.outcome.Outcome.TheVariants as outcomes
 use Rattle.flow_commit.specs.Boards.{AreAmong, Boarded, IsBoardOf, IsOfBoard, names_over}
 use Rattle.flow_commit.specs.Committing.{HasCommitted, HasGoneOn, HasNoRoom, HasNoted, IsDown, IsFor, IsRefusedFor}
 use Rattle.flow_commit.specs.Keeping.{Keeping, IsFit, IsUp, KeepsBook, kept_book, logged, rules}
-use Rattle.flow_commit.specs.Over.{StayOver}
-use Rattle.flow_commit.specs.Shutting.{AreShut}
+use Rattle.flow_commit.specs.Shutting.{AreOver, HasClosed}
 use Rattle.flow_commit.specs.Verifying.{IsOfVerify, IsVerified}
 
 -- A batch was applied and committed, the whole of it or nothing.
@@ -33,8 +32,8 @@ pub record CommitSays {S : Type 0} (g : Ghosts S) (old new : Keeping S) (batch :
   pub same : new.stored.opened ≡ old.stored.opened
   pub found : new.found ≡ old.found
   pub posted : new.posted ≡ old.posted
-  -- what is over is so for good
-  pub over : StayOver old.over new.over
+  -- what its stamp tells is closed is over, and no later command opens it again
+  pub closed : HasClosed g new result
   pub noted : HasNoted g old new batch result
   -- an open connection was open before, and kept a book unless nothing was done
   pub up : IsFit g new → IsUp g new → IsUp g old
@@ -47,7 +46,6 @@ pub record CommitSays {S : Type 0} (g : Ghosts S) (old new : Keeping S) (batch :
 -- What only reads the book leaves all as it was, whatever it answers.
 pub record HasStayed {S A : Type 0} (g : Ghosts S) (old new : Keeping S) (result : Result A Fault) : Type 0 where
   pub same : (new.halted ≡ old.halted) × (new.kept ≡ old.kept) × (new.found ≡ old.found) × (new.log ≡ old.log)
-  pub over : new.over ≡ old.over
   -- the store is as it was: what was kept is kept on, and each stop leaves it
   pub follows : Follows g old.stored new.stored
   pub fit : IsFit g new → IsFit g old
@@ -65,10 +63,9 @@ pub record BoardSays {S : Type 0} (g : Ghosts S) (posted : List Key) (moment : �
   -- it is that of the book behind all commands that were kept
   pub behind : IsFit g new → IfOk result (λ board. IsBoardOf (after rules old.found (logged old.log)) posted moment board)
   pub names : IfOk result (λ board. (board.kept ≡ old.kept) × (board.posted ≡ posted))
-  -- it names nothing of a run that is over, whatever the disk tells; and such a run has nothing open in that book
-  pub over : IfOk result (λ board. (board.over ≡ old.over) × (names_over old.over board.tasks ≡ false))
-  pub shut : IsFit g new → OnOk result (AreShut old.over (after rules old.found (logged old.log)))
   pub counted : IfOk result (λ board. board.kept ≡ length old.log)
+  -- it names no attempt of a run that is over
+  pub apart : IsFit g new → (over : List ℕ) → AreOver g old over → IfOk result (λ board. names_over over board.tasks ≡ false)
   pub stayed : HasStayed g old new result
   pub among : IfErr result (IsOfBoard old.halted)
   pub cause : IsFit g new → IfErr result (λ f. f ≡ faults.StoreRefused → IsDown g old.stored new.stored)

@@ -18,8 +18,8 @@ use Rattle.flow_tables.specs.Owned as tables
 use Rattle.flow_tables.specs.Owned.{Stored, stored_code, state_of, Keeps, LeavesEither}
 
 -- The value of a keeper: its tables, how many commands it has kept since they were opened, and whether it has halted; for
--- contracts alone also the book that was found when it was made, the receipts of all commands that it has kept since, what had been
--- posted when the last board was made, and which runs have closed since it was made: of these no board names anything any more.
+-- contracts alone also the book that was found when it was made, the receipts of all commands that it has kept since, and what had
+-- been posted when the last board was made.
 pub record Keeping (S : Type 0) : Type 0 where
   pub stored : Stored S
   pub kept : ℕ
@@ -27,13 +27,12 @@ pub record Keeping (S : Type 0) : Type 0 where
   pub found : Book
   pub log : List Receipt
   pub posted : List Key
-  pub over : List ℕ
 
 abbrev pub keeping_code : {S : Type 0} → Coded S → Coded (Keeping S)
 keeping_code {S} store =
-    code_by (Stored S × (ℕ × (Bool × (Book × (List Receipt × (List Key × List ℕ)))))) (coded× (stored_code store) (coded× coded_ℕ (coded× coded_bool (coded× book_code (coded× log_code (coded× (coded_list key_code) (coded_list coded_ℕ)))))))
-    (λ k. (k.stored, (k.kept, (k.halted, (k.found, (k.log, (k.posted, k.over)))))))
-    (λ p. record { stored = p.0; kept = p.1.0; halted = p.1.1.0; found = p.1.1.1.0; log = p.1.1.1.1.0; posted = p.1.1.1.1.1.0; over = p.1.1.1.1.1.1 }) (λ _. refl)
+    code_by (Stored S × (ℕ × (Bool × (Book × (List Receipt × List Key))))) (coded× (stored_code store) (coded× coded_ℕ (coded× coded_bool (coded× book_code (coded× log_code (coded_list key_code))))))
+    (λ k. (k.stored, (k.kept, (k.halted, (k.found, (k.log, k.posted))))))
+    (λ p. record { stored = p.0; kept = p.1.0; halted = p.1.1.0; found = p.1.1.1.0; log = p.1.1.1.1.0; posted = p.1.1.1.1.1 }) (λ _. refl)
 
 -- the rules of the product
 abbrev pub rules : Rules
@@ -101,7 +100,7 @@ pub record IsLawfulKeeper {S : Type 0} (g : Ghosts S) (k : Keeping S) : Type 0 w
 
 -- what a stamp tells of it
 abbrev pub account_of : {S : Type 0} → Ghosts S → Keeping S → Accounted
-account_of g k = record { base = record { found = k.found; opened = handed_in (state g k.stored.opened) }; clean = (state_of g k.stored).is_clean; kept = k.kept; log = k.log; over = k.over }
+account_of g k = record { base = record { found = k.found; opened = handed_in (state g k.stored.opened) }; clean = (state_of g k.stored).is_clean; kept = k.kept; log = k.log }
 
 ---- A batch
 

@@ -15,7 +15,13 @@ use Rattle.flow_model.specs.Book.{Book, nth}
 use Rattle.flow_model.specs.Configuration.{is_open}
 use Rattle.flow_model.specs.Open.{state_of}
 use Rattle.flow_tables.specs.Owned.{Stored, IsFit, IsUp, Keeps, state_of as state_in}
+use Rattle.flow_base.specs.Keys.{Key}
+use Rattle.flow_model.specs.Apply.{after}
+use Rattle.flow_commit.specs.Boards.{AreStill}
+use Rattle.flow_commit.specs.Keeping.{Keeping, IsFit as FitKeeper, logged, rules}
 use Rattle.flow_commit.specs.Over.{is_over}
+use Rattle.flow_commit.specs.declared.outcome.Outcome.{Outcome}
+use Rattle.flow_commit.specs.declared.outcome.Outcome.TheVariants as outcomes
 
 ---- In a book
 
@@ -33,6 +39,25 @@ AreShut over b = (n : ℕ) → is_over over n ≡ true → IsShut b.runs n
 -- as long as the connection is open, in the book that is kept
 abbrev pub HasShut : {S : Type 0} → Ghosts S → Stored S → List ℕ → Type 0
 HasShut g t over = IsFit g t → IsUp g t → (b : Book) → Keeps (state_in g t) b → AreShut over b
+
+---- Of a keeper
+
+-- As far as the disk has told no lie these runs are shut in the book behind all commands that it has kept.
+abbrev pub AreOver : {S : Type 0} → Ghosts S → Keeping S → List ℕ → Type 0
+AreOver g k over = FitKeeper g k → AreShut over (after rules k.found (logged k.log))
+
+-- All keys that it was asked with last are among these, but for what is of runs that are over.
+pub record AreKnown {S : Type 0} (g : Ghosts S) (k : Keeping S) (keys : List Key) : Type 0 where
+  pub over : List ℕ
+  pub shut : AreOver g k over
+  pub still : AreStill over k.posted keys
+
+-- The runs that a stamp tells are closed are over.
+abbrev pub HasClosed : {S : Type 0} → Ghosts S → Keeping S → Outcome → Type 0
+HasClosed g new (outcomes.Kept rs stamp) = AreOver g new stamp.closed
+HasClosed g new (outcomes.NotApplied back f) = Unit {0}
+HasClosed g new (outcomes.Unknown back f) = Unit {0}
+HasClosed g new (outcomes.Halted back) = Unit {0}
 
 ---- By changes
 

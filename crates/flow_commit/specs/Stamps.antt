@@ -38,6 +38,6 @@ stamped_code =
     code_by (ℕ × (Accounted × (List Receipt × List ℕ))) (coded× coded_ℕ (coded× account_code (coded× log_code (coded_list coded_ℕ)))) (λ s. (s.number, (s.account, (s.own, s.closed))))
     (λ p. record { number = p.0; account = p.1.0; own = p.1.1.0; closed = p.1.1.1 }) (λ _. refl)
 
--- the stamp names what its keeper has kept, these receipts, and which runs it has closed
+-- the stamp names what its keeper has kept, and these receipts
 abbrev pub IsStampOf : Accounted → List Receipt → Stamped → Type 0
 IsStampOf a rs stamp = stamp ≡ record { number = a.kept; account = a; own = rs; closed = stamp.closed }

@@ -8,7 +8,6 @@ mod deciding;
 pub mod keeper;
 pub mod laws;
 pub mod outcome;
-pub mod over;
 mod receipts;
 mod shutting;
 pub mod stamp;

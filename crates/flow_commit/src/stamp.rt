@@ -1,6 +1,5 @@
 //! What a commit that was kept is known by.
 ghost use Rattle.std.specs.Prelude.{◌≡◌};
-ghost use Rattle.flow_commit.specs.Over.{StayOver};
 ghost use Rattle.flow_commit.specs.Stamps.{IsLawful};
 
 use crate::account::Account;
@@ -21,7 +20,6 @@ pub struct Stamp {
 }
 
 impl Model for Stamp {
-    ghost use Rattle.flow_commit.specs.Over.{StayOver};
     ghost use Rattle.flow_commit.specs.Stamps.{IsLawful, Stamped, stamped_code, only};
 
     ghost Value = { Stamped };
@@ -30,7 +28,7 @@ impl Model for Stamp {
 
     ghost view = { λ s. record { number = s.number; account = only s.account; own = s.own; closed = s.closed.items } };
 
-    ghost invariant = { λ s. IsLawful (only s.account) × StayOver s.closed.items (only s.account).over };
+    ghost invariant = { λ s. IsLawful (only s.account) };
 }
 
 impl Stamp {
@@ -41,10 +39,9 @@ impl Stamp {
         self.number
     }
 
-    /// The runs that the batch has closed. They are over.
+    /// The runs that the batch has closed.
     pub fn closed(&self) -> &[RunId]
-        ensures runs { result.now ≡ self.now.closed }
-        ensures over { StayOver self.now.closed self.now.account.over }
+        ensures { result.now ≡ self.now.closed }
     {
         self.closed.as_slice()
     }

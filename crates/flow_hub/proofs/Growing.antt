@@ -119,8 +119,8 @@ takes_on k xs left = record {
   given = prefix_self k.given;
 }
 
-pub publishes_on : (k : HubFacts) (stamp : Stamped) (rs : List Receipt) → IsOver k.last (stamp.account ∷ []) → IsBefore k (with_published k stamp rs)
-publishes_on k stamp rs o = record {
+pub publishes_on : (k : HubFacts) (stamp : Stamped) (count : ℕ) (rs : List Receipt) → IsOver k.last (stamp.account ∷ []) → IsBefore k (with_published k stamp count rs)
+publishes_on k stamp count rs o = record {
   asked = prefix_self k.asked;
   history = (rs, refl);
   refused = prefix_self k.refused;

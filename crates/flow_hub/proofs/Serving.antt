@@ -1,19 +1,18 @@
 -- A keeper and a publisher that stand together go on so, whatever becomes of a batch.
-use Rattle.std.proofs.Common.{◌≡◌, ◌||◌, ℕ, Bool, true, false, List, [], ◌∷◌, ◌++◌, length, map, refl, sym, ap, ◌∙◌, subst}
+use Rattle.std.proofs.Common.{◌≡◌, List, [], ◌∷◌, ◌++◌, length, map, refl, sym, ap, ◌∙◌, subst}
 use Rattle.std.specs.BTreeSet.{BTreeSet}
 use Rattle.flow_base.specs.declared.code.Code.{Code}
 use Rattle.flow_base.specs.declared.submission.Receipt.{Receipt}
 use Rattle.flow_base.specs.declared.submission.Taken.{Taken}
 use Rattle.flow_commit.specs.Accounts.{Accounted}
 use Rattle.flow_commit.specs.Committing.{taken_of}
-use Rattle.flow_commit.specs.Over.{StayOver, is_over}
 use Rattle.flow_commit.specs.Stamps.{Stamped, IsStampOf}
 use Rattle.flow_base.specs.Keys.{Key}
 use Rattle.flow_commit.specs.Boards.{Boarded}
 use Rattle.flow_hub.specs.declared.known.HubFacts.{HubFacts}
 use Rattle.flow_hub.specs.Knowing.{IsOver, IsSamePart}
-use Rattle.flow_queues.specs.Posting.{HasStill}
-use Rattle.flow_queues.proofs.Still.{of_both}
+use Rattle.flow_queues.specs.Posting.{HasOthers, HasStill}
+use Rattle.flow_queues.proofs.Still.{others_still}
 use Rattle.flow_hub.specs.Publishing.{Together, InHand, HasTaken, Answers, HasPublished, HasRefused, IsFresh, IsSameHistory}
 
 -- what is told later of one keeper is over what the earlier one was over
@@ -21,23 +20,10 @@ over_by : (ks : List Accounted) (old new : Accounted) → new.base ≡ old.base 
 over_by [] old new e o = tt
 over_by (k ∷ ks) old new e o = e ∙ o
 
--- of equal lists
-pub stays_by : (some more all : List ℕ) → more ≡ some → StayOver some all → StayOver more all
-stays_by some more all same stay n is = stay n (ap (λ (runs : List ℕ). is_over runs n) (sym same) ∙ is)
-
--- and of two together
-stay_both : (some more all : List ℕ) → StayOver some all → StayOver more all → StayOver (some ++ more) all
-stay_both some more all one two n is = by (is_over some n) refl (sym (of_both some more n) ∙ is)
-  where
-    by : (v : Bool) → is_over some n ≡ v → (v || is_over more n) ≡ true → is_over all n ≡ true
-    by true its there = one n its
-    by false out there = two n there
-
 pub takes_in_hand : (keeper : Accounted) (old new : HubFacts) (xs : List Taken) → Together keeper old → HasTaken old new xs → InHand keeper new xs
 takes_in_hand keeper old new xs t h = record {
   log = t.log ∙ sym h.history;
   over = subst (λ ks. IsOver ks (keeper ∷ [])) (sym h.last) t.over;
-  gone = stays_by old.gone new.gone keeper.over h.gone t.gone;
   taken = h.held ∙ ap (λ l. l ++ xs) t.none;
 }
 
@@ -45,7 +31,7 @@ takes_in_hand keeper old new xs t h = record {
 pub still_together : (keeper : Accounted) (old new : HubFacts) (xs : List Taken) → xs ≡ [] → Together keeper old → HasTaken old new xs → Together keeper new
 still_together keeper old new xs none t h =
     let i = takes_in_hand keeper old new xs t h in
-    record { log = i.log; over = i.over; gone = i.gone; none = i.taken ∙ none }
+    record { log = i.log; over = i.over; none = i.taken ∙ none }
 
 pub receipts_answer : (old new : Accounted) (k : HubFacts) (stamp : Stamped) (xs : List Taken) (rs : List Receipt) → InHand old k xs → new.base ≡ old.base
     → map taken_of rs ≡ xs → new.log ≡ old.log ++ rs → IsStampOf new rs stamp → Answers k stamp rs
@@ -56,24 +42,20 @@ receipts_answer old new k stamp xs rs h base asked log is = record {
   over = subst (λ (s : Stamped). IsOver k.last (s.account ∷ [])) (sym is) (over_by k.last old new base h.over);
 }
 
-pub published_together : (old new : Accounted) (was k : HubFacts) (stamp : Stamped) (xs : List Taken) (rs : List Receipt) → InHand old was xs → StayOver old.over new.over → IsStampOf new rs stamp
-    → StayOver stamp.closed stamp.account.over → HasPublished was k stamp rs → Together new k
-published_together old new was k stamp xs rs hand stay is closed h =
+pub published_together : (new : Accounted) (was k : HubFacts) (stamp : Stamped) (rs : List Receipt) → IsStampOf new rs stamp → HasPublished was k stamp rs → Together new k
+published_together new was k stamp rs is h =
     let keeper : stamp.account ≡ new = ap (λ (s : Stamped). s.account) is in
     record {
       log = sym (h.log ∙ ap (λ (n : Accounted). n.log) keeper);
       over = subst (λ ks. IsOver ks (new ∷ [])) (sym (h.last ∙ ap (λ n. n ∷ []) keeper)) refl;
-      gone = stays_by (was.gone ++ stamp.closed) k.gone new.over h.gone
-          (stay_both was.gone stamp.closed new.over (λ n is. stay n (hand.gone n is)) (subst (λ (a : Accounted). StayOver stamp.closed a.over) keeper closed));
       none = h.held;
     }
 
-pub refused_together : (old new : Accounted) (was k : HubFacts) (xs : List Taken) (code : Code) → InHand old was xs → new.log ≡ old.log → new.base ≡ old.base → StayOver old.over new.over
+pub refused_together : (old new : Accounted) (was k : HubFacts) (xs : List Taken) (code : Code) → InHand old was xs → new.log ≡ old.log → new.base ≡ old.base
     → HasRefused was k xs code → Together new k
-refused_together old new was k xs code h log base stay r = record {
+refused_together old new was k xs code h log base r = record {
   log = log ∙ (h.log ∙ sym r.history);
   over = subst (λ ks. IsOver ks (new ∷ [])) (sym r.last) (over_by was.last old new base h.over);
-  gone = stays_by was.gone k.gone new.over r.gone (λ n is. stay n (h.gone n is));
   none = r.held;
 }
 
@@ -81,19 +63,17 @@ refused_together old new was k xs code h log base stay r = record {
 
 -- a board that was made of what is kept and of what was posted
 pub is_fresh : (keeper : Accounted) (k : HubFacts) (board : Boarded) (keys : BTreeSet Key) → Together keeper k → HasStill k.gone keys k.posted
-    → board.kept ≡ length keeper.log → board.posted ≡ keys.keys → board.over ≡ keeper.over → IsFresh k board
-is_fresh keeper k board keys t h kept posted over = record {
+    → board.kept ≡ length keeper.log → board.posted ≡ keys.keys → IsFresh k board
+is_fresh keeper k board keys t h kept posted = record {
   kept = kept ∙ ap length t.log;
-  posted = subst (λ (ks : List Key). HasStill k.gone (record { keys = ks }) k.posted) (sym posted) h;
-  gone = subst (StayOver k.gone) (sym over) t.gone;
+  posted = subst (λ (ks : List Key). HasOthers k.gone (record { keys = ks }) k.posted) (sym posted) (others_still k.gone keys k.posted h);
 }
 
 -- and behind it they stand together as before
-pub boarded_together : (old new : Accounted) (was k : HubFacts) → Together old was → new.log ≡ old.log → new.base ≡ old.base → new.over ≡ old.over → IsSameHistory was k → Together new k
-boarded_together old new was k t log base same_over same = record {
+pub boarded_together : (old new : Accounted) (was k : HubFacts) → Together old was → new.log ≡ old.log → new.base ≡ old.base → IsSameHistory was k → Together new k
+boarded_together old new was k t log base same = record {
   log = log ∙ (t.log ∙ sym same.history);
   over = subst (λ ks. IsOver ks (new ∷ [])) (sym same.last) (over_by was.last old new base t.over);
-  gone = stays_by was.gone k.gone new.over same.gone (subst (StayOver was.gone) (sym same_over) t.gone);
   none = same.held ∙ t.none;
 }
 

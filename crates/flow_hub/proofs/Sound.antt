@@ -203,23 +203,23 @@ next_tickets h stamp rs s a =
     tickets_same rs ∙ (ap tickets_in a.asked ∙ (split.0 ∙ ap (count_from first) count))
 
 -- the history that is published, by the stamp's keeper
-pub published_history : (h : Hall) (stamp : Stamped) (rs : List Receipt) → IsSound h → Answers h.known stamp rs → IsLawful stamp.account → IsHistory (with_published h.known stamp rs)
-published_history h stamp rs s a lawful =
+pub published_history : (h : Hall) (stamp : Stamped) (count : ℕ) (rs : List Receipt) → IsSound h → Answers h.known stamp rs → IsLawful stamp.account → IsHistory (with_published h.known stamp count rs)
+published_history h stamp count rs s a lawful =
     let history = h.known.history in
     let first = answered_in h.known in
-    let now = answered_in (with_published h.known stamp rs) in
+    let now = answered_in (with_published h.known stamp count rs) in
     record {
       kept = (sym a.log, lawful.legal);
       rising = rises_on ticket_of history rs first (length rs) now s.legal.rising (next_tickets h stamp rs s a) (omega (arith, length-append history rs));
     }
 
-pub publishes : (h : Hall) (stamp : Stamped) (rs : List Receipt) → IsSound h → Answers h.known stamp rs → IsLawful stamp.account → IsSound (published h stamp rs)
-publishes h stamp rs s a lawful =
+pub publishes : (h : Hall) (stamp : Stamped) (count : ℕ) (rs : List Receipt) → IsSound h → Answers h.known stamp rs → IsLawful stamp.account → IsSound (published h stamp count rs)
+publishes h stamp count rs s a lawful =
     let held = h.known.held in
     let history = h.known.history in
     let asked = h.known.asked in
     let first = answered_in h.known in
-    let now = answered_in (with_published h.known stamp rs) in
+    let now = answered_in (with_published h.known stamp count rs) in
     let split = count_split ticket_in held h.waiting first (length h.waiting) s.order in
     let count : length held ≡ length rs = sym (ap length a.asked) ∙ length-mapped taken_of rs in
     let longer : length (history ++ rs) ≡ length history + length rs = length-append history rs in
@@ -228,7 +228,7 @@ publishes h stamp rs s a lawful =
     let places : map place_of (history ++ rs) ≡ count_from 1 (length history + length rs) = ap (map place_of) (sym a.log) ∙ (lawful.places ∙ ap (count_from 1) kept) in
     let next : map place_of rs ≡ count_from (length history + 1) (length rs) = (count_split place_of history rs 1 (length rs) places).1 ∙ from_same (1 + length history) (length history + 1) (length rs) (omega arith) in
     record {
-      legal = published_history h stamp rs s a lawful;
+      legal = published_history h stamp count rs s a lawful;
       order = split.1 ∙ (from_same (first + length held) now (length h.waiting) (omega (arith, count, longer)) ∙ long_same now (length h.waiting) (0 + length h.waiting) (omega arith));
       counts = omega (arith, s.counts, count, longer);
       shared = s.shared;
@@ -249,8 +249,8 @@ publishes h stamp rs s a lawful =
     }
 
 -- what the publisher's seat has of what was published
-pub has_published : (l was : HubFacts) (stamp : Stamped) (rs : List Receipt) → IsSamePart was l → Answers was stamp rs → HasPublished was (with_published l stamp rs) stamp rs
-has_published l was stamp rs same a = record {
+pub has_published : (l was : HubFacts) (stamp : Stamped) (count : ℕ) (rs : List Receipt) → IsSamePart was l → Answers was stamp rs → HasPublished was (with_published l stamp count rs) stamp rs
+has_published l was stamp count rs same a = record {
   history = ap (λ h. h ++ rs) (sym same.history);
   log = ap (λ h. h ++ rs) (sym same.history) ∙ sym a.log;
   last = refl;
@@ -259,7 +259,8 @@ has_published l was stamp rs same a = record {
   refused = sym same.refused;
   ended = sym same.ended;
   posted = sym same.posted;
-  gone = ap (λ runs. runs ++ stamp.closed) (sym same.gone);
+  count = count;
+  gone = ap (λ runs. runs ++ take count stamp.closed) (sym same.gone);
   boarded = refl;
   outlook = refl;
   skipped = sym same.skipped;

@@ -74,9 +74,9 @@ submitted h c = record h { known = with_ask h.known (new_ask h c); waiting = h.w
 abbrev pub took : Hall → List Taken → List Taken → Hall
 took h xs rest = record h { known = with_taken h.known xs (length rest); waiting = rest }
 
--- the receipts answer all that was taken
-abbrev pub published : Hall → Stamped → List Receipt → Hall
-published h stamp rs = record h { known = with_published h.known stamp rs; answered = h.answered ++ rs }
+-- the receipts answer all that was taken, and so many of the runs that the stamp tells are closed are gone
+abbrev pub published : Hall → Stamped → ℕ → List Receipt → Hall
+published h stamp count rs = record h { known = with_published h.known stamp count rs; answered = h.answered ++ rs }
 
 -- all that was taken is answered by a code
 abbrev pub refused_all : Hall → Code → Hall

@@ -1,5 +1,5 @@
 -- What threads know of a hub, how it changes, and how it grows.
-use Rattle.std.specs.Prelude.{ℕ, ◌≡◌, ◌≤◌, ◌+◌, Bool, true, false, Option, Some, None, List, [], ◌∷◌, ◌++◌, length, map, refl}
+use Rattle.std.specs.Prelude.{ℕ, ◌≡◌, ◌≤◌, ◌+◌, Bool, true, false, Option, Some, None, List, [], ◌∷◌, ◌++◌, length, map, refl, take}
 use Rattle.std.specs.Coded.{Coded, code_by, coded×, coded_ℕ, coded_bool, coded_list, coded_option}
 use mathlib.Core.List.{IsPrefix}
 use Rattle.flow_base.specs.declared.code.Code.{Code}
@@ -74,8 +74,8 @@ taken_at_once (x ∷ xs) left = record { taken = length (x ∷ xs); left = left 
 abbrev pub with_taken : HubFacts → List Taken → ℕ → HubFacts
 with_taken k xs left = record k { held = k.held ++ xs; takes = k.takes ++ taken_at_once xs left }
 
-abbrev pub with_published : HubFacts → Stamped → List Receipt → HubFacts
-with_published k stamp rs = record k { history = k.history ++ rs; last = stamp.account ∷ []; gone = k.gone ++ stamp.closed; held = []; boarded = false; outlook = None }
+abbrev pub with_published : HubFacts → Stamped → ℕ → List Receipt → HubFacts
+with_published k stamp count rs = record k { history = k.history ++ rs; last = stamp.account ∷ []; gone = k.gone ++ take count stamp.closed; held = []; boarded = false; outlook = None }
 
 abbrev pub with_refused : HubFacts → List Taken → Code → HubFacts
 with_refused k xs code = record k { refused = k.refused ++ map (refused_by code) xs; held = []; boarded = false; outlook = None }

@@ -1,34 +1,32 @@
 -- What the publisher does.
-use Rattle.std.specs.Prelude.{ℕ, ◌≡◌, ◌+◌, ◌<◌, true, false, List, [], ◌∷◌, ◌++◌, length, map, All, Some, None}
+use Rattle.std.specs.Prelude.{ℕ, ◌≡◌, ◌+◌, ◌<◌, true, false, List, [], ◌∷◌, ◌++◌, length, map, take, All, Some, None}
+use Rattle.std.specs.BTreeSet.{BTreeSet}
+use Rattle.flow_base.specs.Keys.{Key}
 use Rattle.flow_base.specs.declared.code.Code.{Code}
 use Rattle.flow_base.specs.declared.fault.Fault.{Fault}
 use Rattle.flow_base.specs.declared.submission.Receipt.{Receipt}
 use Rattle.flow_base.specs.declared.submission.Taken.{Taken}
 use Rattle.flow_commit.specs.Accounts.{Accounted}
 use Rattle.flow_commit.specs.Keeping.{count_from}
-use Rattle.flow_commit.specs.Over.{StayOver}
 use Rattle.flow_commit.specs.Stamps.{Stamped}
 use Rattle.flow_commit.specs.Boards.{Boarded}
 use Rattle.flow_hub.specs.declared.known.HubFacts.{HubFacts}
 use Rattle.flow_hub.specs.declared.known.TakeFacts.{TakeFacts}
-use Rattle.flow_queues.specs.Posting.{HasStill, new_ones}
+use Rattle.flow_queues.specs.Posting.{HasOthers, HasStill, apart_of, new_ones}
 use Rattle.flow_hub.specs.Asks.{IsAsked, tickets_in, takens_of}
 use Rattle.flow_queues.specs.Refusing.{refused_by}
 use Rattle.flow_hub.specs.Knowing.{IsOver, answered_in, taken_at_once}
 
--- What the keeper has kept is what the publisher has published, over the same book and file, and nothing is taken. The runs whose keys
--- the publisher has let go of, if there are any, are over.
+-- What the keeper has kept is what the publisher has published, over the same book and file, and nothing is taken.
 pub record Together (keeper : Accounted) (k : HubFacts) : Type 0 where
   pub log : keeper.log ≡ k.history
   pub over : IsOver k.last (keeper ∷ [])
-  pub gone : StayOver k.gone keeper.over
   pub none : k.held ≡ []
 
 -- These are taken, and in all else keeper and publisher stand together.
 pub record InHand (keeper : Accounted) (k : HubFacts) (xs : List Taken) : Type 0 where
   pub log : keeper.log ≡ k.history
   pub over : IsOver k.last (keeper ∷ [])
-  pub gone : StayOver k.gone keeper.over
   pub taken : k.held ≡ xs
 
 -- These are taken: the next that were submitted and not taken before, with none left out.
@@ -75,8 +73,8 @@ pub record Answers (k : HubFacts) (stamp : Stamped) (rs : List Receipt) : Type 0
   pub log : stamp.account.log ≡ k.history ++ rs
   pub over : IsOver k.last (stamp.account ∷ [])
 
--- The history has these receipts more, and is all that the stamp's keeper has kept. The keys of the runs that the stamp tells are closed
--- are let go of. What the last board says holds no more.
+-- The history has these receipts more, and is all that the stamp's keeper has kept. Of the runs that the stamp tells are closed the keys
+-- are let go of, but for the last of them where memory was refused. What the last board says holds no more.
 pub record HasPublished (old new : HubFacts) (stamp : Stamped) (rs : List Receipt) : Type 0 where
   pub history : new.history ≡ old.history ++ rs
   pub log : new.history ≡ stamp.account.log
@@ -86,7 +84,8 @@ pub record HasPublished (old new : HubFacts) (stamp : Stamped) (rs : List Receip
   pub refused : new.refused ≡ old.refused
   pub ended : new.ended ≡ old.ended
   pub posted : new.posted ≡ old.posted
-  pub gone : new.gone ≡ old.gone ++ stamp.closed
+  pub count : ℕ
+  pub gone : new.gone ≡ old.gone ++ take count stamp.closed
   pub boarded : new.boarded ≡ false
   pub outlook : new.outlook ≡ None
   pub skipped : new.skipped ≡ old.skipped
@@ -105,12 +104,18 @@ pub record HasRefused (old new : HubFacts) (xs : List Taken) (code : Code) : Typ
   pub outlook : new.outlook ≡ None
   pub skipped : new.skipped ≡ old.skipped
 
--- The board was made behind all that is published, when these tasks were posted, but for what is of runs that are gone; and it names
--- nothing of these, if there are any.
+-- The board was made behind all that is published, when these tasks were posted, whatever is said of runs that are gone.
 pub record IsFresh (k : HubFacts) (board : Boarded) : Type 0 where
   pub kept : board.kept ≡ length k.history
-  pub posted : HasStill k.gone (record { keys = board.posted }) k.posted
-  pub gone : StayOver k.gone board.over
+  pub posted : HasOthers k.gone (record { keys = board.posted }) k.posted
+
+-- The board without what is of runs that are gone.
+abbrev pub left_on : HubFacts → Boarded → Boarded
+left_on k board = record board { tasks = apart_of k.gone board.tasks }
+
+-- The set has the keys of what was posted, but for what is of runs that are gone, and these are those runs.
+abbrev pub HasRest : BTreeSet Key → List ℕ → HubFacts → Type 0
+HasRest keys gone k = HasStill k.gone keys k.posted × (gone ≡ k.gone)
 
 -- All else that the publisher alone changes is as it was.
 pub record IsSameHistory (old new : HubFacts) : Type 0 where

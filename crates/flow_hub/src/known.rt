@@ -142,13 +142,13 @@ impl Makes<Stamp, Account> for Named {
     ghost list = { λ s. s.account ∷ [] };
 }
 
-/// Runs, and behind them those that a stamp tells are closed.
+/// Runs, and behind them the first so many of those that a stamp tells are closed.
 struct Closed;
 
-impl Makes<(Listed<RunId>, &Stamp), RunId> for Closed {
-    ghost use Rattle.std.specs.Prelude.{◌++◌};
+impl Makes<(Listed<RunId>, &Stamp, usize), RunId> for Closed {
+    ghost use Rattle.std.specs.Prelude.{◌++◌, take};
 
-    ghost list = { λ p. p.0 ++ p.1.now.closed };
+    ghost list = { λ p. p.0 ++ take p.2 p.1.now.closed };
 }
 
 impl HubFacts {
@@ -193,16 +193,17 @@ impl HubFacts {
         );
     }
 
-    /// What was taken is answered by the receipts of a stamp.
-    pub(crate) fn publish(&mut self, receipts: &Vec<Receipt>, stamp: &Stamp)
-        ensures { self.new ≡ with_published self.old stamp.now receipts.now.items }
+    /// What was taken is answered by the receipts of a stamp, and so many of the runs that it tells are closed are gone.
+    pub(crate) fn publish(&mut self, receipts: &Vec<Receipt>, stamp: &Stamp, count: usize)
+        ensures { self.new ≡ with_published self.old stamp.now count receipts.now.items }
     {
         self.history = Listed::of::<(Listed<Receipt>, &Vec<Receipt>), Behind>(&(
             self.history.again(),
             receipts,
         ));
         self.last = Listed::of::<Stamp, Named>(stamp);
-        self.gone = Listed::of::<(Listed<RunId>, &Stamp), Closed>(&(self.gone.again(), stamp));
+        let closed = (self.gone.again(), stamp, count);
+        self.gone = Listed::of::<(Listed<RunId>, &Stamp, usize), Closed>(&closed);
         self.held = Listed::of::<(), Empty>(&());
         self.boarded = false;
         self.outlook = None;

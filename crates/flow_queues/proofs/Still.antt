@@ -10,8 +10,8 @@ use Rattle.std.specs.BTreeSet.{BTreeSet, contains, IsKeyInRange, IsKeyRangeOf}
 use Rattle.std.specs.declared.ops.Bound.TheVariants.{Excluded, Included}
 use Rattle.flow_base.specs.declared.task.Task.{Task}
 use Rattle.flow_base.specs.Keys.{Key, key_of}
-use Rattle.flow_queues.specs.Posting.{HasKeys, HasStill, IsFirstOf, has_key, is_key, is_of, key_cmp, marks_of, names_of, new_ones}
-use Rattle.flow_queues.proofs.Once.{has_both, has_last, key_is, off}
+use Rattle.flow_queues.specs.Posting.{HasOthers, HasStill, IsFirstOf, apart_of, has_key, is_key, is_of, key_cmp, names_of}
+use Rattle.flow_queues.proofs.Once.{key_is, off}
 
 ---- Numbers
 
@@ -131,13 +131,9 @@ gone_next false x y = refl
 gone_next true true y = refl
 gone_next true false y = refl
 
-pub of_first : (run n : ℕ) (runs : List ℕ) → is_of (run ∷ runs) n ≡ (is_of (run ∷ []) n || is_of runs n)
-of_first run n runs = ap (λ b. b || is_of runs n) (sym (or_false (is_eq (nat_cmp run n))))
-
--- none is left to be let go of
-pub gone_all : (old now : BTreeSet Key) (runs rest : List ℕ) (q : Key) → rest ≡ [] → (contains key_cmp now q && not (is_of rest q.0)) ≡ (contains key_cmp old q && not (is_of runs q.0))
-    → contains key_cmp now q ≡ (contains key_cmp old q && not (is_of runs q.0))
-gone_all old now runs rest q none same = sym (and_true (contains key_cmp now q)) ∙ ap (λ xs. contains key_cmp now q && not (is_of xs q.0)) (sym none) ∙ same
+-- of no run none is let go of
+pub none_gone : (now : BTreeSet Key) (q : Key) → contains key_cmp now q ≡ (contains key_cmp now q && not (is_of [] q.0))
+none_gone now q = sym (and_true (contains key_cmp now q))
 
 ---- A set of the keys that may still come
 
@@ -148,7 +144,7 @@ none_still gone s none q = ap (λ ks. list_any (λ k. is_eq (key_cmp q k)) ks) n
 pub still_alike : (gone : List ℕ) (s n : BTreeSet Key) (ts : List Task) → ((q : Key) → contains key_cmp n q ≡ contains key_cmp s q) → HasStill gone s ts → HasStill gone n ts
 still_alike gone s n ts same h q = same q ∙ h q
 
-of_both : (runs more : List ℕ) (n : ℕ) → is_of (runs ++ more) n ≡ (is_of runs n || is_of more n)
+pub of_both : (runs more : List ℕ) (n : ℕ) → is_of (runs ++ more) n ≡ (is_of runs n || is_of more n)
 of_both [] more n = refl
 of_both (r ∷ runs) more n = ap (λ b. is_eq (nat_cmp r n) || b) (of_both runs more n) ∙ by (is_eq (nat_cmp r n)) (is_of runs n) (is_of more n)
   where
@@ -161,86 +157,24 @@ pub still_without : (gone runs : List ℕ) (s n : BTreeSet Key) (ts : List Task)
 still_without gone runs s n ts drops h q =
     drops q ∙ ap (λ v. v && not (is_of runs q.0)) (h q) ∙ gone_next (has_key ts q) (is_of gone q.0) (is_of runs q.0) ∙ ap (λ v. has_key ts q && not v) (sym (of_both gone runs q.0))
 
----- What is new by that set
+-- of other runs it knows all that was posted
+pub others_still : (gone : List ℕ) (s : BTreeSet Key) (ts : List Task) → HasStill gone s ts → HasOthers gone s ts
+others_still gone s ts h q out = h q ∙ ap (λ v. has_key ts q && not v) out ∙ and_true (has_key ts q)
 
--- those of the tasks that aren't of these runs
-abbrev left_of : List ℕ → List Task → List Task
-left_of gone ts = filter (λ (t : Task). not (is_of gone t.run)) ts
-
-left_has : (gone : List ℕ) (ts : List Task) (q : Key) → has_key (left_of gone ts) q ≡ (has_key ts q && not (is_of gone q.0))
-left_has gone [] q = refl
-left_has gone (t ∷ ts) q = by (left_has gone ts q) (is_of gone t.run) refl (is_key (key_of t) q) refl
-  where
-    own : is_key (key_of t) q ≡ true → is_of gone q.0 ≡ is_of gone t.run
-    own same = sym (ap (λ (k : Key). is_of gone k.0) (key_is (key_of t) q same))
-
-    by : has_key (left_of gone ts) q ≡ (has_key ts q && not (is_of gone q.0)) → (v : Bool) → is_of gone t.run ≡ v → (w : Bool) → is_key (key_of t) q ≡ w
-        → has_key (cond (not v) (t ∷ left_of gone ts) (left_of gone ts)) q ≡ ((w || has_key ts q) && not (is_of gone q.0))
-    by rest true out true same = rest ∙ ap (λ v. has_key ts q && not v) (own same ∙ out) ∙ and_false (has_key ts q) ∙ sym (ap not (own same ∙ out))
-    by rest true out false same = rest
-    by rest false out true same = ap (λ b. b || has_key (left_of gone ts) q) same ∙ sym (ap not (own same ∙ out))
-    by rest false out false same = ap (λ b. b || has_key (left_of gone ts) q) same ∙ rest
-
--- The keys of these tasks are in both lists or in neither.
-abbrev AreAlike : List Task → List Task → List Task → Type 0
-AreAlike xs ys [] = Unit {0}
-AreAlike xs ys (t ∷ ts) = (has_key xs (key_of t) ≡ has_key ys (key_of t)) × AreAlike xs ys ts
-
-alike_more : (xs ys : List Task) (t : Task) (ts : List Task) → AreAlike xs ys ts → AreAlike (xs ++ t ∷ []) (ys ++ t ∷ []) ts
-alike_more xs ys t [] same = tt
-alike_more xs ys t (u ∷ ts) same = (has_last xs t (key_of u) ∙ ap (λ b. b || is_key (key_of t) (key_of u)) same.0 ∙ sym (has_last ys t (key_of u)), alike_more xs ys t ts same.1)
-
-same_marks : (xs ys ts : List Task) → AreAlike xs ys ts → marks_of xs ts ≡ marks_of ys ts
-same_marks xs ys [] same = refl
-same_marks xs ys (t ∷ ts) same =
-    (λ i. cond (same.0 i) (false ∷ marks_of xs ts) (true ∷ marks_of (xs ++ t ∷ []) ts))
-    ∙ (λ i. cond (has_key ys (key_of t)) (false ∷ same_marks xs ys ts same.1 i) (true ∷ same_marks (xs ++ t ∷ []) (ys ++ t ∷ []) ts (alike_more xs ys t ts same.1) i))
-
-same_new : (xs ys ts : List Task) → AreAlike xs ys ts → new_ones xs ts ≡ new_ones ys ts
-same_new xs ys [] same = refl
-same_new xs ys (t ∷ ts) same =
-    (λ i. cond (same.0 i) (new_ones xs ts) (t ∷ new_ones (xs ++ t ∷ []) ts))
-    ∙ (λ i. cond (has_key ys (key_of t)) (same_new xs ys ts same.1 i) (t ∷ same_new (xs ++ t ∷ []) (ys ++ t ∷ []) ts (alike_more xs ys t ts same.1) i))
+---- Tasks of other runs
 
 apart_first : (a b : Bool) → (a || b) ≡ false → (a ≡ false) × (b ≡ false)
 apart_first true b e = absurd (true≢false e)
 apart_first false b e = (refl, e)
 
--- of tasks of other runs what is left knows all
-left_alike : (gone : List ℕ) (posted ts : List Task) → names_of gone ts ≡ false → AreAlike (left_of gone posted) posted ts
-left_alike gone posted [] apart = tt
-left_alike gone posted (t ∷ ts) apart =
+-- where none is of these runs, none is left out
+pub all_apart : (gone : List ℕ) (ts : List Task) → names_of gone ts ≡ false → apart_of gone ts ≡ ts
+all_apart gone [] apart = refl
+all_apart gone (t ∷ ts) apart =
     let own = apart_first (is_of gone t.run) (names_of gone ts) apart in
-    (left_has gone posted (key_of t) ∙ ap (λ v. has_key posted (key_of t) && not v) own.0 ∙ and_true (has_key posted (key_of t)), left_alike gone posted ts own.1)
+    ap (λ v. cond (not v) (t ∷ apart_of gone ts) (apart_of gone ts)) own.0 ∙ ap (λ us. t ∷ us) (all_apart gone ts own.1)
 
--- and what is new of them has no key of these runs
-new_apart : (gone : List ℕ) (posted ts : List Task) (q : Key) → names_of gone ts ≡ false → is_of gone q.0 ≡ true → has_key (new_ones posted ts) q ≡ false
-new_apart gone posted [] q apart is = refl
-new_apart gone posted (t ∷ ts) q apart is =
-    let own = apart_first (is_of gone t.run) (names_of gone ts) apart in
-    by (has_key posted (key_of t)) (new_apart gone posted ts q own.1 is) (new_apart gone (posted ++ t ∷ []) ts q own.1 is) (is_key (key_of t) q) refl own.0
-  where
-    by : (v : Bool) → has_key (new_ones posted ts) q ≡ false → has_key (new_ones (posted ++ t ∷ []) ts) q ≡ false → (w : Bool) → is_key (key_of t) q ≡ w → is_of gone t.run ≡ false
-        → has_key (cond v (new_ones posted ts) (t ∷ new_ones (posted ++ t ∷ []) ts)) q ≡ false
-    by true old more w same out = old
-    by false old more true same out = absurd (true≢false (sym is ∙ sym (ap (λ (k : Key). is_of gone k.0) (key_is (key_of t) q same)) ∙ out))
-    by false old more false same out = ap (λ b. b || has_key (new_ones (posted ++ t ∷ []) ts) q) same ∙ more
-
--- What is posted by what the set has is what is new of all that was posted, and then it has their keys too.
-pub still_posted : (gone : List ℕ) (s n : BTreeSet Key) (posted ts : List Task) (ms : List Bool) → HasStill gone s posted → names_of gone ts ≡ false
-    → ((xs : List Task) → HasKeys s xs → (ms ≡ marks_of xs ts) × HasKeys n (xs ++ new_ones xs ts)) → (ms ≡ marks_of posted ts) × HasStill gone n (posted ++ new_ones posted ts)
-still_posted gone s n posted ts ms h apart told =
-    let same = left_alike gone posted ts apart in
-    let made = told (left_of gone posted) (λ q. h q ∙ sym (left_has gone posted q)) in
-    let more : new_ones (left_of gone posted) ts ≡ new_ones posted ts = same_new (left_of gone posted) posted ts same in
-    let keys : HasKeys n (left_of gone posted ++ new_ones posted ts) = subst (λ us. HasKeys n (left_of gone posted ++ us)) more made.1 in (
-      made.0 ∙ same_marks (left_of gone posted) posted ts same,
-      λ q.
-          keys q ∙ has_both (left_of gone posted) (new_ones posted ts) q ∙ ap (λ b. b || has_key (new_ones posted ts) q) (left_has gone posted q)
-          ∙ by q (is_of gone q.0) refl ∙ ap (λ b. b && not (is_of gone q.0)) (sym (has_both posted (new_ones posted ts) q)),
-    )
-  where
-    by : (q : Key) (v : Bool) → is_of gone q.0 ≡ v
-        → ((has_key posted q && not v) || has_key (new_ones posted ts) q) ≡ ((has_key posted q || has_key (new_ones posted ts) q) && not v)
-    by q true is = ap (λ b. b || has_key (new_ones posted ts) q) (and_false (has_key posted q)) ∙ new_apart gone posted ts q apart is ∙ sym (and_false (has_key posted q || has_key (new_ones posted ts) q))
-    by q false is = ap (λ b. b || has_key (new_ones posted ts) q) (and_true (has_key posted q)) ∙ sym (and_true (has_key posted q || has_key (new_ones posted ts) q))
+-- of no run none is
+pub none_named : (ts : List Task) → names_of [] ts ≡ false
+none_named [] = refl
+none_named (t ∷ ts) = none_named ts

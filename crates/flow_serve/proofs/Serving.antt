@@ -19,7 +19,6 @@ use Rattle.flow_queues.specs.declared.refused.Refused.{Refused}
 use Rattle.flow_queues.specs.Refusing.{refused_by}
 use Rattle.flow_hub.specs.Knowing.{IsOver}
 use Rattle.flow_hub.specs.Publishing.{Together}
-use Rattle.flow_hub.proofs.Serving.{stays_by}
 use Rattle.flow_serve.specs.Serving.{IsGivenUp, GivesUp, TurnsAway, StopsAt, StopsFor}
 
 ---- What was answered by a code
@@ -60,11 +59,10 @@ abbrev based : Book → HandedIn → Based
 based b h = record { found = b; opened = h }
 
 -- an engine that does nothing stands together with the publisher, whatever this one has turned away
-pub together_still : (k : Accounted) (was now : HubFacts) → Together k was → now.history ≡ was.history → now.last ≡ was.last → now.gone ≡ was.gone → now.held ≡ [] → Together k now
-together_still k was now t history last gone none = record {
+pub together_still : (k : Accounted) (was now : HubFacts) → Together k was → now.history ≡ was.history → now.last ≡ was.last → now.held ≡ [] → Together k now
+together_still k was now t history last none = record {
   log = t.log ∙ sym history;
   over = subst (λ ks. IsOver ks (k ∷ [])) (sym last) t.over;
-  gone = stays_by was.gone now.gone k.over gone t.gone;
   none = none;
 }
 

@@ -78,9 +78,9 @@ loop-taken-preserved g c =
           let decides = c.in_ok-reply.ensures.decides sure (was.fit (sure_at sure) fit) in
           let next : c.since_changes.result ≡ since_changes c.loop-taken.since changes = search rules in
           were_decided posted at new reply changes (outcome the_rules at taken.command) c.loop-taken.since c.since_changes.result decides next (was.since (sure_at sure) fit posted were);
-      shut = λ sure fit over has.
+      shut = λ sure fit has.
           let decides = c.in_ok-reply.ensures.decides sure (was.fit (sure_at sure) fit) in
-          shut_decided the_rules over c.loop-taken.closed.items c.add_shut.new.list.items at new reply changes taken.command decides (search rules) (was.shut (sure_at sure) fit over has);
+          shut_decided the_rules c.loop-taken.closed.items c.add_shut.new.list.items at new reply changes taken.command decides (search rules) (was.shut (sure_at sure) fit has);
       alike = alike_on c.args.seats.now c.loop-taken.seats c.decide.new.seats was.alike c.decide.ensures.alike;
       counted = omega (arith, many, shorter, counted);
       stuck = λ sure fit h. was.stuck (sure_at sure) fit (stuck_on the_rules at new left taken.command rest cut reply changes (c.in_ok-reply.ensures.decides sure (was.fit (sure_at sure) fit)) h);

@@ -21,7 +21,7 @@ invariant-loop-taken g l =
       rest : g.V.View.is_sure l.view → Fit → after rules (book l.view) left ≡ after rules (book l.fn.view) all;
       fit : g.V.View.is_sure l.view → Fit → FitSeats meaning_of (book l.view) l.seats;
       since : g.V.View.is_sure l.view → Fit → (posted : List Key) → AllWerePosted posted l.fn.since (book l.fn.view) → AllWerePosted posted l.since (book l.view);
-      shut : g.V.View.is_sure l.view → Fit → (over : List ℕ) → AreShut (over ++ l.fn.closed.items) (book l.fn.view) → AreShut (over ++ l.closed.items) (book l.view);
+      shut : g.V.View.is_sure l.view → Fit → AreShut l.fn.closed.items (book l.fn.view) → AreShut l.closed.items (book l.view);
       alike : KeepsAlike l.fn.seats l.seats;
       counted : length l.replies.items + length (drop l.taken-index l.batch) ≡ length l.batch;
       stuck : g.V.View.is_sure l.view → Fit → IsStuckWithin rules (book l.view) left → IsStuckWithin rules (book l.fn.view) all;

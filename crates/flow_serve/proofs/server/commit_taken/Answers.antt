@@ -1,41 +1,29 @@
-use Rattle.std.proofs.Common.{List, refl, sym, ap, ◌∙◌, ◌++◌, map, subst, append-nil}
+use Rattle.std.proofs.Common.{List, refl, sym, ap, ◌∙◌, ◌++◌, map, subst, take, append-nil}
 use Rattle.flow_base.specs.declared.code.Code.{Code}
 use Rattle.flow_base.specs.declared.code.Code.TheVariants as code
 use Rattle.flow_base.specs.declared.submission.Taken.{Taken}
 use Rattle.flow_view.specs.Codes.{view_fault_code}
 use Rattle.flow_queues.specs.Refusing.{refused_by}
 use Rattle.flow_hub.specs.Publishing.{InHand}
-use Rattle.flow_hub.proofs.Serving.{published_together, receipts_answer, refused_together}
+use Rattle.flow_hub.proofs.Serving.{receipts_answer, refused_together}
 use Rattle.flow_commit.specs.Keeping.{Keeping, account_of}
 use Rattle.flow_commit.specs.Committing.{IsFor, IsRefusedFor}
 use Rattle.flow_commit.specs.declared.outcome.Outcome.TheVariants as outcomes
 use Rattle.flow_engine.specs.declared.done.Done.TheVariants as dones
 use Rattle.flow_engine.proofs.GivingUp.{refused_done}
+use Rattle.flow_commit.proofs.Overs.{over_some}
+use Rattle.flow_serve.proofs.Posted.{lets_none}
 use Rattle.flow_serve.proofs.Serving.{gives_these, same_base}
 use Rattle.flow_serve.proofs.server.commit_taken.Goals as goal
 
 -- the receipts are those of the stamp, and answer what was taken
-pub publish-requires : goal.publish-requires
-publish-requires g c =
+pub publish-left-requires : goal.publish-left-requires
+publish-left-requires g c =
     let noted = c.in-Kept.ensures.noted in
     let old = account_of g.S.Store c.args.engine.now in
     let new = account_of g.S.Store c.commit.new.self in
     let base = same_base g.S.Store c.args.engine.now c.commit.new.self c.commit.ensures.found c.commit.ensures.same in
     record { answers = receipts_answer old new c.args.publisher.now c.in-Kept.stamp c.args.batch c.in-Kept.receipts.items c.requires.hand base noted.3 noted.4 noted.5 }
-
-pub returns-in-Kept-clause-together : goal.returns-in-Kept-clause-together
-returns-in-Kept-clause-together g c =
-    published_together (account_of g.S.Store c.args.engine.now) (account_of g.S.Store c.commit.new.self) c.args.publisher.now c.publish.new.self c.in-Kept.stamp c.args.batch c.in-Kept.receipts.items c.requires.hand
-    c.commit.ensures.over c.in-Kept.ensures.noted.5 c.publish.ensures.closed c.publish.ensures.published
-
-pub returns-in-Halted-clause-together : goal.returns-in-Halted-clause-together
-returns-in-Halted-clause-together g c =
-    let old = account_of g.S.Store c.args.engine.now in
-    let noted = c.in-Halted.ensures.noted in
-    let same = c.into_taken-in-Halted.ensures.same ∙ noted.2 in
-    let hand = subst (λ (ts : List Taken). InHand old c.args.publisher.now ts) (sym same) c.requires.hand in
-    refused_together old (account_of g.S.Store c.commit.new.self) c.args.publisher.now c.refuse-in-Halted.new.self c.into_taken-in-Halted.result.items _ hand (ap (λ (k : Keeping g.row.S.Denot). k.log) noted.1)
-    (same_base g.S.Store c.args.engine.now c.commit.new.self c.commit.ensures.found c.commit.ensures.same) c.commit.ensures.over c.refuse-in-Halted.ensures.refused
 
 pub returns-in-NotApplied-clause-together : goal.returns-in-NotApplied-clause-together
 returns-in-NotApplied-clause-together g c =
@@ -43,7 +31,7 @@ returns-in-NotApplied-clause-together g c =
     let noted = c.in-NotApplied.ensures.noted in
     let same = c.into_taken.ensures.same ∙ noted.3 in
     let hand = subst (λ (ts : List Taken). InHand old c.args.publisher.now ts) (sym same) c.requires.hand in
-    refused_together old (account_of g.S.Store c.commit.new.self) c.args.publisher.now c.refuse.new.self c.into_taken.result.items c.code.result hand noted.2 (same_base g.S.Store c.args.engine.now c.commit.new.self c.commit.ensures.found c.commit.ensures.same) c.commit.ensures.over c.refuse.ensures.refused
+    refused_together old (account_of g.S.Store c.commit.new.self) c.args.publisher.now c.refuse.new.self c.into_taken.result.items c.code.result hand noted.2 (same_base g.S.Store c.args.engine.now c.commit.new.self c.commit.ensures.found c.commit.ensures.same) c.refuse.ensures.refused
 
 pub returns-in-NotApplied-clause-given_up : goal.returns-in-NotApplied-clause-given_up
 returns-in-NotApplied-clause-given_up g c =
@@ -57,7 +45,7 @@ returns-in-Unknown-clause-together g c =
     let noted = c.in-Unknown.ensures.noted in
     let same = c.into_taken-in-Unknown.ensures.same ∙ noted.3 in
     let hand = subst (λ (ts : List Taken). InHand old c.args.publisher.now ts) (sym same) c.requires.hand in
-    refused_together old (account_of g.S.Store c.commit.new.self) c.args.publisher.now c.refuse-in-Unknown.new.self c.into_taken-in-Unknown.result.items _ hand noted.2 (same_base g.S.Store c.args.engine.now c.commit.new.self c.commit.ensures.found c.commit.ensures.same) c.commit.ensures.over c.refuse-in-Unknown.ensures.refused
+    refused_together old (account_of g.S.Store c.commit.new.self) c.args.publisher.now c.refuse-in-Unknown.new.self c.into_taken-in-Unknown.result.items _ hand noted.2 (same_base g.S.Store c.args.engine.now c.commit.new.self c.commit.ensures.found c.commit.ensures.same) c.refuse-in-Unknown.ensures.refused
 
 -- what has become of the batch
 pub returns-in-Kept-clause-answered : goal.returns-in-Kept-clause-answered
@@ -73,7 +61,7 @@ returns-in-Kept-clause-answered g c =
       later = λ h. absurd (let clash = c.in-Kept.ensures.later h in cc);
       noted = (noted.0, noted.1, noted.2);
       log = noted.4;
-      codes = c.publish.ensures.published.refused ∙ sym (append-nil c.args.publisher.now.refused);
+      codes = c.publish-left.ensures.published.refused ∙ sym (append-nil c.args.publisher.now.refused);
       up = c.commit.ensures.up;
       own = c.commit.ensures.own;
       on = c.commit.ensures.goes_on;
@@ -147,3 +135,18 @@ returns-in-Halted-clause-answered g c =
       on = c.commit.ensures.goes_on;
       why = λ _. tt;
     }
+
+-- the runs that are let go of are over
+pub returns-in-Kept-clause-lets_go : goal.returns-in-Kept-clause-lets_go
+returns-in-Kept-clause-lets_go g c =
+    let told = c.publish-left.ensures.published in
+    record { more = take told.count c.in-Kept.stamp.closed; are = told.gone; over = over_some g.S.Store c.commit.new.self c.in-Kept.stamp.closed told.count c.in-Kept.ensures.closed }
+
+pub returns-in-NotApplied-clause-lets_go : goal.returns-in-NotApplied-clause-lets_go
+returns-in-NotApplied-clause-lets_go g c = lets_none g.S.Store c.commit.new.self c.args.publisher.now.gone c.refuse.new.self.gone c.refuse.ensures.refused.gone
+
+pub returns-in-Unknown-clause-lets_go : goal.returns-in-Unknown-clause-lets_go
+returns-in-Unknown-clause-lets_go g c = lets_none g.S.Store c.commit.new.self c.args.publisher.now.gone c.refuse-in-Unknown.new.self.gone c.refuse-in-Unknown.ensures.refused.gone
+
+pub returns-in-Halted-clause-lets_go : goal.returns-in-Halted-clause-lets_go
+returns-in-Halted-clause-lets_go g c = lets_none g.S.Store c.commit.new.self c.args.publisher.now.gone c.refuse-in-Halted.new.self.gone c.refuse-in-Halted.ensures.refused.gone

@@ -6,5 +6,5 @@ use Rattle.flow_hub.proofs.publisher.Publisher.refuse.Goals as goal
 pub invariant_of-self : goal.invariant_of-self
 invariant_of-self g c = (
   search rules,
-  rest_refused c.self.inside.keys c.self.inside.seat.was c.leave-me.result.was c.refuse-me.result.0.was _ _ (ap (λ (v : Sight). v.was) c.leave-me.ensures.0) c.refuse-me.ensures.seen c.self.invariant.1,
+  rest_refused c.self.inside.keys c.self.inside.gone c.self.inside.seat.was c.leave-me.result.was c.refuse-me.result.0.was _ _ (ap (λ (v : Sight). v.was) c.leave-me.ensures.0) c.refuse-me.ensures.seen c.self.invariant.1,
 )

@@ -1,6 +1,6 @@
 use Rattle.std.proofs.Common.{rules}
-use Rattle.flow_commit.proofs.Stretches.{both_next, none_ends, only_ends}
-use Rattle.flow_commit.proofs.over.is_within.Goals as goal
+use Rattle.flow_queues.proofs.Stretches.{both_next, none_ends, only_ends}
+use Rattle.flow_queues.proofs.over.is_within.Goals as goal
 
 pub returns-in_default : goal.returns-in_default
 returns-in_default c runs h = none_ends c.args.firsts.now c.args.ends.now runs h c.args.run c.in_default.ensures

@@ -1,6 +1,6 @@
 use Rattle.std.proofs.Common.{sym, ◌∙◌}
-use Rattle.flow_commit.proofs.Stretches.{again}
-use Rattle.flow_commit.proofs.over.cover.Goals as goal
+use Rattle.flow_queues.proofs.Stretches.{again}
+use Rattle.flow_queues.proofs.over.cover.Goals as goal
 
 pub returns-then-is_within-clause-covered : goal.returns-then-is_within-clause-covered
 returns-then-is_within-clause-covered c yes runs h = again c.args.firsts.now c.args.ends.now runs h c.args.run (sym (c.is_within.ensures runs h) ∙ c.if-is_within.true)

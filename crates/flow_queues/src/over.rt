@@ -1,11 +1,11 @@
 //! Which runs are over, as stretches of their numbers.
-ghost use Rattle.std.specs.Prelude.{◌≡◌, ◌&&◌, ◌<◌, ◌+◌, ◌^◌, ◌++◌, ◌∷◌, [], ℕ, List, cond, not, true, false};
+ghost use Rattle.std.specs.Prelude.{◌≡◌, ◌&&◌, ◌<◌, ◌+◌, ◌^◌, ◌++◌, ◌∷◌, [], ℕ, List, OnErr, OnOk, cond, not, true, false};
 ghost use Rattle.std.specs.BTreeSet.{contains};
 ghost use Rattle.std.specs.Ordering.{nat_cmp};
-ghost use Rattle.flow_commit.specs.Over.{AreStretches, IsNextIn, is_over, is_same};
+ghost use Rattle.flow_queues.specs.Over.{AreStretches, IsNextIn, is_over, is_same};
 
 use flow_base::number::RunId;
-use std::alloc::Global;
+use std::alloc::{AllocError, Global};
 use std::collections::BTreeSet;
 use std::marker::Model;
 use unseen::{Listed, Makes};
@@ -25,7 +25,7 @@ pub struct Over {
 impl Model for Over {
     ghost use Rattle.std.specs.Prelude.{ℕ, List};
     ghost use Rattle.std.specs.Coded.{coded_list, coded_ℕ};
-    ghost use Rattle.flow_commit.specs.Over.{AreStretches};
+    ghost use Rattle.flow_queues.specs.Over.{AreStretches};
 
     ghost Value = { List ℕ };
 
@@ -86,15 +86,18 @@ fn is_within(firsts: &BTreeSet<u64>, ends: &BTreeSet<u64>, run: u64) -> bool
     end < first
 }
 
-/// Puts a number into a set, if that is asked for. Whether there was memory for it.
-fn put_if(asked: bool, set: &mut BTreeSet<u64>, number: u64) -> bool
-    ensures put { result ≡ true → (q : ℕ) → contains nat_cmp set.new q ≡ cond (asked && is_same number q) true (contains nat_cmp set.old q) }
-    ensures refused { result ≡ false → (q : ℕ) → contains nat_cmp set.new q ≡ contains nat_cmp set.old q }
+/// Puts a number into a set, if that is asked for.
+fn put_if(asked: bool, set: &mut BTreeSet<u64>, number: u64) -> Result<(), AllocError>
+    ensures put { OnOk result ((q : ℕ) → contains nat_cmp set.new q ≡ cond (asked && is_same number q) true (contains nat_cmp set.old q)) }
+    ensures refused { OnErr result ((q : ℕ) → contains nat_cmp set.new q ≡ contains nat_cmp set.old q) }
 {
     if !asked {
-        return true;
+        return Ok(());
     }
-    set.insert(number).is_ok()
+    match set.insert(number) {
+        Ok(_new) => Ok(()),
+        Err(refused) => Err(AllocError::from(refused)),
+    }
 }
 
 /// Takes a number out of a set, if that is asked for.
@@ -123,39 +126,37 @@ fn merge(begins: bool, closes: bool, firsts: &mut BTreeSet<u64>, ends: &mut BTre
     take_if(!closes, firsts, run + 1);
 }
 
-/// A run that lies in no stretch comes to those beside it, or is one of its own. Whether there was memory for it. What needs memory is
-/// done first, so that it can be taken back.
-fn join(firsts: &mut BTreeSet<u64>, ends: &mut BTreeSet<u64>, run: u64) -> bool
+/// A run that lies in no stretch comes to those beside it, or is one of its own. What needs memory is done first, so that it can be taken
+/// back.
+fn join(firsts: &mut BTreeSet<u64>, ends: &mut BTreeSet<u64>, run: u64) -> Result<(), AllocError>
     requires { run < 2 ^ 63 }
-    ensures joined { result ≡ true → (runs : List ℕ) → AreStretches firsts.old ends.old runs → is_over runs run ≡ false
-        → AreStretches firsts.new ends.new (runs ++ run ∷ []) }
-    ensures refused { result ≡ false → (runs : List ℕ) → AreStretches firsts.old ends.old runs → is_over runs run ≡ false
-        → AreStretches firsts.new ends.new runs }
+    ensures joined { OnOk result ((runs : List ℕ) → AreStretches firsts.old ends.old runs → is_over runs run ≡ false
+        → AreStretches firsts.new ends.new (runs ++ run ∷ [])) }
+    ensures refused { OnErr result ((runs : List ℕ) → AreStretches firsts.old ends.old runs → is_over runs run ≡ false
+        → AreStretches firsts.new ends.new runs) }
 {
     let begins = lacks(ends, run);
     let closes = lacks(firsts, run + 1);
-    let begun = put_if(begins, firsts, run);
-    if !begun {
-        return false;
+    if let Err(refused) = put_if(begins, firsts, run) {
+        return Err(refused);
     }
-    let closed = put_if(closes, ends, run + 1);
-    if !closed {
+    if let Err(refused) = put_if(closes, ends, run + 1) {
         take_if(begins, firsts, run);
-        return false;
+        return Err(refused);
     }
     merge(begins, closes, firsts, ends, run);
-    true
+    Ok(())
 }
 
-/// A run lies in a stretch from now on. Whether there was memory for it; if not, the stretches are as before.
-fn cover(firsts: &mut BTreeSet<u64>, ends: &mut BTreeSet<u64>, run: u64) -> bool
+/// A run lies in a stretch from now on. Where memory for it is refused, the stretches are as before.
+fn cover(firsts: &mut BTreeSet<u64>, ends: &mut BTreeSet<u64>, run: u64) -> Result<(), AllocError>
     requires { run < 2 ^ 63 }
-    ensures covered { result ≡ true → (runs : List ℕ) → AreStretches firsts.old ends.old runs
-        → AreStretches firsts.new ends.new (runs ++ run ∷ []) }
-    ensures refused { result ≡ false → (runs : List ℕ) → AreStretches firsts.old ends.old runs → AreStretches firsts.new ends.new runs }
+    ensures covered { OnOk result ((runs : List ℕ) → AreStretches firsts.old ends.old runs
+        → AreStretches firsts.new ends.new (runs ++ run ∷ [])) }
+    ensures refused { OnErr result ((runs : List ℕ) → AreStretches firsts.old ends.old runs → AreStretches firsts.new ends.new runs) }
 {
     if is_within(firsts, ends, run) {
-        return true;
+        return Ok(());
     }
     join(firsts, ends, run)
 }
@@ -179,15 +180,15 @@ impl Over {
         is_within(&self.firsts, &self.ends, run.get())
     }
 
-    /// One run more is over. Whether there was memory for it; if not, all is as before.
-    pub fn add(&mut self, run: RunId) -> bool
-        ensures added { result ≡ true → self.new ≡ self.old ++ run ∷ [] }
-        ensures refused { result ≡ false → self.new ≡ self.old }
+    /// One run more is over. Where memory for it is refused, all is as before.
+    pub fn add(&mut self, run: RunId) -> Result<(), AllocError>
+        ensures added { OnOk result (self.new ≡ self.old ++ run ∷ []) }
+        ensures refused { OnErr result (self.new ≡ self.old) }
     {
-        if !cover(&mut self.firsts, &mut self.ends, run.get()) {
-            return false;
+        if let Err(refused) = cover(&mut self.firsts, &mut self.ends, run.get()) {
+            return Err(refused);
         }
         self.runs = longer(&self.runs, run);
-        true
+        Ok(())
     }
 }

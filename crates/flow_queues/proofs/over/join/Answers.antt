@@ -1,6 +1,6 @@
 use Rattle.std.proofs.Common.{rules, refl}
-use Rattle.flow_commit.proofs.Stretches.{alike, joined, taken_back}
-use Rattle.flow_commit.proofs.over.join.Goals as goal
+use Rattle.flow_queues.proofs.Stretches.{alike, joined, taken_back}
+use Rattle.flow_queues.proofs.over.join.Goals as goal
 
 pub returns-then-not-begun-clause-refused : goal.returns-then-not-begun-clause-refused
 returns-then-not-begun-clause-refused c no runs h out =

@@ -1,6 +1,6 @@
 use Rattle.std.proofs.Common.{rules, ℕ, List, [], ◌∷◌, ◌++◌, subst, sym}
-use Rattle.flow_commit.specs.Over.{AreStretches}
-use Rattle.flow_commit.proofs.over.Over.add.Goals as goal
+use Rattle.flow_queues.specs.Over.{AreStretches}
+use Rattle.flow_queues.proofs.over.Over.add.Goals as goal
 
 pub invariant_of-self-then-not-cover : goal.invariant_of-self-then-not-cover
 invariant_of-self-then-not-cover c = c.cover.ensures.refused (search rules) c.self.inside.runs c.self.invariant

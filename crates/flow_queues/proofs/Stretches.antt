@@ -8,7 +8,7 @@ use Rattle.std.proofs.lemmas.Cmp.{ranked, nat_cmp_total, tied_itself}
 use Rattle.std.specs.BTreeMap.Range.{IsLeBy}
 use Rattle.std.specs.BTreeSet.{BTreeSet, contains, IsKeyInRange, IsKeyRangeOf}
 use Rattle.std.specs.declared.ops.Bound.TheVariants.{Included, Unbounded}
-use Rattle.flow_commit.specs.Over.{AreStretches, IsNextIn, StayOver, is_over, is_same, was_over}
+use Rattle.flow_queues.specs.Over.{AreStretches, IsNextIn, StayOver, is_over, is_same, was_over}
 
 ---- Numbers
 
