@@ -7,11 +7,11 @@ use Rattle.flow_base.specs.declared.submission.Receipt.{Receipt}
 use Rattle.flow_model.specs.Book.{Book}
 use Rattle.flow_model.specs.Apply.{after}
 use Rattle.flow_model.proofs.Logs.{after_cut}
-use Rattle.flow_commit.specs.Boards.{AreAmong, Boarded, IsBoardOf, names_over, ready_tasks}
+use Rattle.flow_commit.specs.Boards.{AreAmong, Boarded, IsBoardOf, names_over}
 use Rattle.flow_commit.specs.Keeping.{IsFit, IsLawfulKeeper, Keeping, logged, logged_command, rules}
 use Rattle.flow_commit.specs.Looking.{HasLooked}
 use Rattle.flow_commit.specs.Over.{is_over}
-use Rattle.flow_commit.specs.Shutting.{AreKnown, AreOver, AreShut, HasShut, IsShut}
+use Rattle.flow_commit.specs.Shutting.{AreKnown, AreOver, AreShut, IsShut}
 use Rattle.flow_commit.proofs.Closing.{looked_still, never_named, shut_at}
 use Rattle.flow_commit.proofs.Shut.{over_both, stays_shut}
 
@@ -41,7 +41,7 @@ module _ {S : Type 0} (g : Ghosts S) where
   pub over_some : (k : Keeping S) (xs : List ℕ) (n : ℕ) → AreOver g k xs → AreOver g k (take n xs)
   over_some k xs n all fit = let b = after rules k.found (logged k.log) in first_shut (take n xs) (drop n xs) b (subst (λ (runs : List ℕ). AreShut runs b) (sym (take-append-drop n xs)) (all fit))
 
-  -- where it has kept more commands since, or none
+  -- if it has kept more commands since
   pub over_on : (old new : Keeping S) (more : List Receipt) (over : List ℕ) → (IsFit g new → IsFit g old) → new.found ≡ old.found → new.log ≡ old.log ++ more → AreOver g old over → AreOver g new over
   over_on old new more over fit found log was now =
       let cut : logged new.log ≡ logged old.log ++ logged more = ap logged log ∙ map-append logged_command old.log more in
@@ -63,6 +63,6 @@ module _ {S : Type 0} (g : Ghosts S) where
       let b = after rules k.found (logged k.log) in
       looked_still g k.stored since known.over k.posted keys known.still (shut_at g k.stored known.over b (λ fit up. (lawful.stands fit goes, known.shut fit))) looked
 
-  -- where all was posted on, nothing is over
+  -- if all was posted on, nothing has to be over
   pub known_among : (k : Keeping S) (keys : List Key) → AreAmong k.posted keys → AreKnown g k keys
   known_among k keys among = record { over = []; shut = none_over k; still = λ q is out. among q is }

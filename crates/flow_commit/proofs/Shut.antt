@@ -47,7 +47,7 @@ use Rattle.flow_machine.proofs.Heard.{open_is_there}
 use Rattle.flow_machine.proofs.Places.{get_past, nth_kept}
 use Rattle.flow_machine.proofs.Ticks.{changed_append, fired_book, goes_on}
 use Rattle.flow_commit.specs.Over.{is_over, is_same}
-use Rattle.flow_commit.specs.Shutting.{AreShut, IsShut, ends, ends_at, ends_behind, ends_by, shut_by, shut_in, started_by}
+use Rattle.flow_commit.specs.Shutting.{AreShut, IsShut, ends, ends_at, ends_after, ends_by, shut_by, shut_in, started_by}
 
 ---- Runs by their numbers
 
@@ -139,7 +139,7 @@ more_shut b r n s = record { run = s.run; there = nth_kept b.runs (r ∷ []) n s
 
 ---- A turn that closes its run
 
-asked_tasks : (before : Bool) (ts : List OpenActivity) (n at : ℕ) (cs : List Cmd) → (before ≡ true → ts ≡ []) → ends_behind before cs ≡ true → tasks_after ts (traces n at cs) ≡ []
+asked_tasks : (before : Bool) (ts : List OpenActivity) (n at : ℕ) (cs : List Cmd) → (before ≡ true → ts ≡ []) → ends_after before cs ≡ true → tasks_after ts (traces n at cs) ≡ []
 asked_tasks before ts n at [] none is = none is
 asked_tasks before ts n at (c ∷ cs) none is = asked_tasks (ends_by c) (tasks_by ts n at (effect_of_command c)) (n + 1) at cs (closing c) is
   where
@@ -163,7 +163,7 @@ turn_tasks ts n t is = asked_tasks (ends_at t.input) (tasks_by ts n t.at (effect
     came (TimerFired m) e = absurd (true≢false (sym e))
     came (Terminated x) e = refl
 
-asked_state : (before : Bool) (s : State) (n at : ℕ) (cs : List Cmd) → (before ≡ true → is_open s ≡ false) → ends_behind before cs ≡ true → is_open (state_after s (traces n at cs)) ≡ false
+asked_state : (before : Bool) (s : State) (n at : ℕ) (cs : List Cmd) → (before ≡ true → is_open s ≡ false) → ends_after before cs ≡ true → is_open (state_after s (traces n at cs)) ≡ false
 asked_state before s n at [] none is = none is
 asked_state before s n at (c ∷ cs) none is = asked_state (ends_by c) (state_by s (effect_of_command c)) (n + 1) at cs (closing c) is
   where
@@ -206,7 +206,7 @@ own_turn b run r t there is = by (nth b.runs run) refl
 
 ---- Changes
 
--- What was shut is so behind these changes, and so is what they close.
+-- What was shut is so after these changes, and so is what they close.
 abbrev Goes : Book → Reply → List Change → Type 0
 Goes b said cs = (n : ℕ) → IsShut b.runs n ⊎ (is_over (shut_in said cs) n ≡ true) → IsShut (changed_by b cs).runs n
 
@@ -247,7 +247,7 @@ only_first : (a b : Bool) → b ≡ false → (a || b) ≡ true → a ≡ true
 only_first true b none h = refl
 only_first false b none h = absurd (true≢false (sym h ∙ none))
 
--- a turn of a run that isn't shut, and runs behind it
+-- a turn of a run that isn't shut, and runs after it
 turn_goes : (b : Book) (said : Reply) (run : ℕ) (r : Run) (t : Turn) (cs : List Change) → nth b.runs run ≡ Some r → (IsShut b.runs run → ⊥) → started_by said ≡ [] → AreRuns cs → Goes b said (AddTurn run t ∷ cs)
 turn_goes b said run r t cs there alive none are n (inl s) =
     runs_stay (changed b (AddTurn run t)) cs n are (other_turn b run n t (λ same. alive (subst (IsShut b.runs) (sym same) s)) s)
@@ -576,7 +576,7 @@ module _ (u : Rules) (b : Book) where
   goes (command.History run) = goes_by (history b run) (history_has u b run)
   goes (command.Open from most) = goes_by (list_open u.program_of b from most) (list_has u b from most)
 
--- Behind one more command what was shut is so, and what it closes.
+-- After one more command what was shut is so, and what it closes.
 pub shut_decided : (u : Rules) (before now : List ℕ) (old new : Book) (r : Reply) (changes : List Change) (c : Command) → Decides old new r changes (outcome u old c) → now ≡ before ++ shut_in r changes
     → AreShut before old → AreShut now new
 shut_decided u before now old new r changes c d is shut n among =
@@ -590,7 +590,7 @@ shut_decided u before now old new r changes c d is shut n among =
     either true e h = inl (shut n e)
     either false e h = inr h
 
--- Behind any commands what was shut is so.
+-- After any commands what was shut is so.
 pub stays_shut : (u : Rules) (b : Book) (cs : List Command) (over : List ℕ) → AreShut over b → AreShut over (after u b cs)
 stays_shut u b [] over shut = shut
 stays_shut u b (c ∷ cs) over shut = stays_shut u (after_one u b c) cs over (λ n is. goes u b c n (inl (shut n is)))

@@ -32,7 +32,7 @@ pub record CommitSays {S : Type 0} (g : Ghosts S) (old new : Keeping S) (batch :
   pub same : new.stored.opened ≡ old.stored.opened
   pub found : new.found ≡ old.found
   pub posted : new.posted ≡ old.posted
-  -- what its stamp tells is closed is over, and no later command opens it again
+  -- what its stamp names as closed is over, and no later command opens it again
   pub closed : HasClosed g new result
   pub noted : HasNoted g old new batch result
   -- an open connection was open before, and kept a book unless nothing was done

@@ -42,7 +42,7 @@ HasShut g t over = IsFit g t → IsUp g t → (b : Book) → Keeps (state_in g t
 
 ---- Of a keeper
 
--- As far as the disk has told no lie these runs are shut in the book behind all commands that it has kept.
+-- As far as the disk has told no lie these runs are shut in the book after all commands that it has kept.
 abbrev pub AreOver : {S : Type 0} → Ghosts S → Keeping S → List ℕ → Type 0
 AreOver g k over = FitKeeper g k → AreShut over (after rules k.found (logged k.log))
 
@@ -52,7 +52,7 @@ pub record AreKnown {S : Type 0} (g : Ghosts S) (k : Keeping S) (keys : List Key
   pub shut : AreOver g k over
   pub still : AreStill over k.posted keys
 
--- The runs that a stamp tells are closed are over.
+-- The runs that a stamp names as closed are over.
 abbrev pub HasClosed : {S : Type 0} → Ghosts S → Keeping S → Outcome → Type 0
 HasClosed g new (outcomes.Kept rs stamp) = AreOver g new stamp.closed
 HasClosed g new (outcomes.NotApplied back f) = Unit {0}
@@ -72,21 +72,21 @@ abbrev pub ends_at : Input → Bool
 ends_at (Terminated text) = true
 ends_at i = false
 
--- whether the last of them does, where what comes before them does or doesn't
-abbrev pub ends_behind : Bool → List Cmd → Bool
-ends_behind before [] = before
-ends_behind before (c ∷ cs) = ends_behind (ends_by c) cs
+-- whether the last of them does, if what comes before them does or doesn't
+abbrev pub ends_after : Bool → List Cmd → Bool
+ends_after before [] = before
+ends_after before (c ∷ cs) = ends_after (ends_by c) cs
 
 -- whether the last event of a turn does
 abbrev pub ends : Turn → Bool
-ends t = ends_behind (ends_at t.input) t.commands
+ends t = ends_after (ends_at t.input) t.commands
 
 -- the run that was started, by the reply to a command
 abbrev pub started_by : Reply → List ℕ
 started_by (Started run) = run ∷ []
 started_by r = []
 
--- The run that a change closes. One that another run continued as has no number here; where its first turn closes it, nothing of it was
+-- The run that a change closes. One that another run continued as has no number here; if its first turn closes it, nothing of it was
 -- ever open.
 abbrev pub shut_by : Reply → Change → List ℕ
 shut_by reply (AddRun flow request text t) = cond (ends t) (started_by reply) []

@@ -29,9 +29,9 @@ fn ends_at(input: &Input) -> bool
     }
 }
 
-/// Whether the last of these does, where what comes before them does or doesn't.
-fn ends_behind(before: bool, commands: &[Cmd]) -> bool
-    ensures { result ≡ rule.ends_behind before commands.now }
+/// Whether the last of these does, if what comes before them does or doesn't.
+fn ends_after(before: bool, commands: &[Cmd]) -> bool
+    ensures { result ≡ rule.ends_after before commands.now }
 {
     let mut last = before;
     for command in commands {
@@ -44,7 +44,7 @@ fn ends_behind(before: bool, commands: &[Cmd]) -> bool
 fn ends(turn: &Turn) -> bool
     ensures { result ≡ rule.ends turn.now }
 {
-    ends_behind(ends_at(&turn.input), turn.commands.as_slice())
+    ends_after(ends_at(&turn.input), turn.commands.as_slice())
 }
 
 /// Lists the run that was started, by the reply to a command.

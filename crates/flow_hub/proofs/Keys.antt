@@ -1,5 +1,7 @@
 -- The keys that the publisher has are those of what it has posted, but for what is of runs that are gone: from call to call.
-use Rattle.std.proofs.Common.{◌≡◌, ℕ, ◌&&◌, not, List, [], ◌++◌, take, sym, ap, ◌∙◌, subst}
+use Rattle.std.proofs.Common.{◌≡◌, ◌≤◌, ℕ, ◌&&◌, not, false, List, [], ◌++◌, length, take, Result, Ok, Err, sym, ap, ◌∙◌, subst, arith}
+use Rattle.std.specs.Prelude.{OnOk}
+use Rattle.std.proofs.lemmas.List.{take_all}
 use Rattle.std.specs.BTreeSet.{BTreeSet, contains}
 use Rattle.flow_base.specs.declared.code.Code.{Code}
 use Rattle.flow_base.specs.declared.fault.Fault.{Fault}
@@ -8,11 +10,10 @@ use Rattle.flow_base.specs.declared.task.Task.{Task}
 use Rattle.flow_base.specs.Keys.{Key}
 use Rattle.flow_commit.specs.Boards.{Boarded}
 use Rattle.flow_hub.specs.declared.known.HubFacts.{HubFacts}
-use Rattle.flow_hub.specs.declared.known.BoardSummary.{BoardSummary}
-use Rattle.flow_hub.specs.Knowing.{IsSamePart, with_posted}
+use Rattle.flow_hub.specs.Knowing.{IsSamePart}
 use Rattle.flow_hub.specs.Publishing.{HasEnded, HasPosted, HasRefused, HasRest, HasSkipped, HasTaken, left_on}
-use Rattle.flow_queues.specs.Posting.{HasStill, apart_of, is_of, key_cmp, new_ones}
-use Rattle.flow_queues.proofs.Still.{none_still, still_without}
+use Rattle.flow_queues.specs.Posting.{HasStill, apart_of, is_of, key_cmp, names_of}
+use Rattle.flow_queues.proofs.Still.{all_apart, none_still, still_without}
 
 pub rest_on : (s : BTreeSet Key) (gone : List ℕ) (k old new : HubFacts) → old ≡ k → new.gone ≡ old.gone → new.posted ≡ old.posted → HasRest s gone k → HasRest s gone new
 rest_on s gone k old new seen same posted h =
@@ -43,7 +44,7 @@ rest_published s n was is k old new closed seen same more told drops h =
     let posted : new.posted ≡ k.posted = same ∙ ap (λ (x : HubFacts). x.posted) seen in
     let gone : new.gone ≡ k.gone ++ closed = more ∙ ap (λ (x : HubFacts). x.gone ++ closed) seen in (
       subst (λ (ts : List Task). HasStill new.gone n ts) (sym posted)
-      (subst (λ (runs : List ℕ). HasStill runs n k.posted) (sym gone) (still_without k.gone closed s n k.posted drops h.0)),
+          (subst (λ (runs : List ℕ). HasStill runs n k.posted) (sym gone) (still_without k.gone closed s n k.posted drops h.0)),
       told ∙ ap (λ (runs : List ℕ). runs ++ closed) h.1 ∙ sym gone,
     )
 
@@ -53,3 +54,16 @@ rest_none s gone k empty none posted same = (subst (λ (ts : List Task). HasStil
 -- what the publisher's seat has of a board that was posted
 pub left_posted : (l was new : HubFacts) (board : Boarded) → was.gone ≡ l.gone → HasPosted was new (left_on l board) → HasPosted was new (left_on was board)
 left_posted l was new board same h = subst (λ (runs : List ℕ). HasPosted was new (record board { tasks = apart_of runs board.tasks })) (sym same) h
+
+-- and if it names nothing of these runs, it is the whole board
+pub whole_posted : (was seen new : HubFacts) (board : Boarded) → seen ≡ was → HasPosted seen new (left_on seen board) → names_of was.gone board.tasks ≡ false → HasPosted was new board
+whole_posted was seen new board same h apart =
+    let own : HasPosted was new (left_on was board) = subst (λ (k : HubFacts). HasPosted k new (left_on k board)) same h in
+    subst (λ (ts : List Task). HasPosted was new (record board { tasks = ts })) (all_apart was.gone board.tasks apart) own
+
+-- all runs that the stamp names are gone, if memory wasn't refused
+pub all_gone : {A E : Type 0} (r : Result A E) (count : ℕ) (was seen new closed told : List ℕ) → seen ≡ was → new ≡ seen ++ take count closed → told ≡ closed → OnOk r (count ≡ length told) → OnOk r (new ≡ was ++ closed)
+all_gone (Ok a) count was seen new closed told same gone is all =
+    let many : length closed ≤ count = let long : length told ≡ length closed = ap (λ (runs : List ℕ). length runs) is in omega (arith, all, long) in
+    gone ∙ ap (λ (runs : List ℕ). runs ++ take count closed) same ∙ ap (λ (runs : List ℕ). was ++ runs) (take_all count closed many)
+all_gone (Err e) count was seen new closed told same gone is all = tt

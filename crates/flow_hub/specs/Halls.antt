@@ -74,7 +74,7 @@ submitted h c = record h { known = with_ask h.known (new_ask h c); waiting = h.w
 abbrev pub took : Hall → List Taken → List Taken → Hall
 took h xs rest = record h { known = with_taken h.known xs (length rest); waiting = rest }
 
--- the receipts answer all that was taken, and so many of the runs that the stamp tells are closed are gone
+-- the receipts answer all that was taken, and so many of the runs that the stamp names as closed are gone
 abbrev pub published : Hall → Stamped → ℕ → List Receipt → Hall
 published h stamp count rs = record h { known = with_published h.known stamp count rs; answered = h.answered ++ rs }
 

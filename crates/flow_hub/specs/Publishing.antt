@@ -73,8 +73,8 @@ pub record Answers (k : HubFacts) (stamp : Stamped) (rs : List Receipt) : Type 0
   pub log : stamp.account.log ≡ k.history ++ rs
   pub over : IsOver k.last (stamp.account ∷ [])
 
--- The history has these receipts more, and is all that the stamp's keeper has kept. Of the runs that the stamp tells are closed the keys
--- are let go of, but for the last of them where memory was refused. What the last board says holds no more.
+-- The history has these receipts more, and is all that the stamp's keeper has kept. Of the runs that the stamp names as closed the
+-- keys are let go of, but for the last of them if memory was refused. What the last board says holds no more.
 pub record HasPublished (old new : HubFacts) (stamp : Stamped) (rs : List Receipt) : Type 0 where
   pub history : new.history ≡ old.history ++ rs
   pub log : new.history ≡ stamp.account.log
@@ -104,7 +104,7 @@ pub record HasRefused (old new : HubFacts) (xs : List Taken) (code : Code) : Typ
   pub outlook : new.outlook ≡ None
   pub skipped : new.skipped ≡ old.skipped
 
--- The board was made behind all that is published, when these tasks were posted, whatever is said of runs that are gone.
+-- The board was made after all that is published, when these tasks were posted, whatever is said of runs that are gone.
 pub record IsFresh (k : HubFacts) (board : Boarded) : Type 0 where
   pub kept : board.kept ≡ length k.history
   pub posted : HasOthers k.gone (record { keys = board.posted }) k.posted

@@ -142,7 +142,7 @@ impl Makes<Stamp, Account> for Named {
     ghost list = { λ s. s.account ∷ [] };
 }
 
-/// Runs, and behind them the first so many of those that a stamp tells are closed.
+/// Runs, and after them the first so many of those that a stamp names as closed.
 struct Closed;
 
 impl Makes<(Listed<RunId>, &Stamp, usize), RunId> for Closed {
@@ -193,7 +193,7 @@ impl HubFacts {
         );
     }
 
-    /// What was taken is answered by the receipts of a stamp, and so many of the runs that it tells are closed are gone.
+    /// What was taken is answered by the receipts of a stamp, and so many of the runs that it names as closed are gone.
     pub(crate) fn publish(&mut self, receipts: &Vec<Receipt>, stamp: &Stamp, count: usize)
         ensures { self.new ≡ with_published self.old stamp.now count receipts.now.items }
     {

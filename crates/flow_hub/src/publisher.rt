@@ -124,7 +124,7 @@ impl<B: Room> Publisher<B> {
         some
     }
 
-    /// Answers all that was taken, by the receipts of a stamp. The keys of the runs that the stamp tells are closed are let go of, and of
+    /// Answers all that was taken, by the receipts of a stamp. The keys of the runs that the stamp names as closed are let go of, and of
     /// these runs nothing is posted any more.
     ///
     /// # Failure
@@ -166,8 +166,8 @@ impl<B: Room> Publisher<B> {
     }
 
     /// Posts those of a board's tasks that it hasn't posted before and that are of no run that is gone, for those who give them out, and
-    /// what the board says beside. By the caller's condition the board was made behind all that is published, when these tasks were
-    /// posted. So none is posted twice, whatever the board names; and where it names nothing of a run that is gone, none is left out.
+    /// what the board says beside. By the caller's condition the board was made after all that is published, when these tasks were
+    /// posted. So none is posted twice, whatever the board names; and if it names nothing of a run that is gone, none is left out.
     ///
     /// # Failure
     /// E01: nothing is posted, and the board comes back.
@@ -181,16 +181,14 @@ impl<B: Room> Publisher<B> {
     {
         let shared = shared_in(&self.shared);
         let me = shared.seats.leave(&mut self.seat);
-        let (me, answer) = shared
-            .lock(rt)
-            .post(
-                self.alloc,
-                &shared.seats,
-                me,
-                &mut self.keys,
-                &self.gone,
-                board,
-            );
+        let (me, answer) = shared.lock(rt).post(
+            self.alloc,
+            &shared.seats,
+            me,
+            &mut self.keys,
+            &self.gone,
+            board,
+        );
         self.seat = me;
         match answer {
             Ok(wake) => {

@@ -295,7 +295,7 @@ impl<B: Room> State<B> {
         seats.tell(&mut self.keeper, me, self.places, self.places, &self.known)
     }
 
-    /// Answers all that was taken, and all who wait for that are to be woken; so many of the runs that the stamp tells are closed are gone.
+    /// Answers all that was taken, and all who wait for that are to be woken; so many of the runs that the stamp names as closed are gone.
     /// What the publisher must show it shows of its own seat.
     pub(crate) fn publish(
         &mut self,

@@ -74,7 +74,7 @@ is_false : (b : Bool) → false ≡ not b → b ≡ true
 is_false true e = refl
 is_false false e = off e
 
--- the keys behind one that was asked for, whether it came or was there
+-- the keys after one that was asked for, whether it came or was there
 pub came : (s n : BTreeSet Key) (k : Key) (new : Bool) → new ≡ not (contains key_cmp s k) → ((q : Key) → contains key_cmp n q ≡ cond (is_key k q) true (contains key_cmp s q))
     → (q : Key) → contains key_cmp n q ≡ cond (new && is_key k q) true (contains key_cmp s q)
 came s n k true is adds q = adds q

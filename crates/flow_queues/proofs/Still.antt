@@ -167,7 +167,7 @@ apart_first : (a b : Bool) → (a || b) ≡ false → (a ≡ false) × (b ≡ fa
 apart_first true b e = absurd (true≢false e)
 apart_first false b e = (refl, e)
 
--- where none is of these runs, none is left out
+-- if none is of these runs, none is left out
 pub all_apart : (gone : List ℕ) (ts : List Task) → names_of gone ts ≡ false → apart_of gone ts ≡ ts
 all_apart gone [] apart = refl
 all_apart gone (t ∷ ts) apart =

@@ -1,4 +1,4 @@
--- Stretches of runs: what they say of a run, and what becomes of them where one more is over.
+-- Stretches of runs: what they say of a run, and what becomes of them if one more is over.
 use Rattle.std.proofs.Common.{◌≡◌, ◌≢◌, ◌≤◌, ◌<◌, ◌+◌, ◌-◌, ℕ, zero, suc, Bool, true, false, cond, ◌&&◌, ◌||◌, not, List, [], ◌∷◌, ◌++◌, Some, None, slice_get, refl, sym, ap, ◌∙◌, subst, arith, true≢false}
 use Rattle.std.specs.Prelude.{IfSome}
 use Rattle.std.specs.List.{list_any}
@@ -8,7 +8,7 @@ use Rattle.std.proofs.lemmas.Cmp.{ranked, nat_cmp_total, tied_itself}
 use Rattle.std.specs.BTreeMap.Range.{IsLeBy}
 use Rattle.std.specs.BTreeSet.{BTreeSet, contains, IsKeyInRange, IsKeyRangeOf}
 use Rattle.std.specs.declared.ops.Bound.TheVariants.{Included, Unbounded}
-use Rattle.flow_queues.specs.Over.{AreStretches, IsNextIn, StayOver, is_over, is_same, was_over}
+use Rattle.flow_queues.specs.Over.{AreStretches, IsNextIn, is_over, is_same, was_over}
 
 ---- Numbers
 
@@ -66,30 +66,6 @@ over_last xs x n = over_both xs (x ∷ []) n ∙ ap (λ b. is_over xs n || b) (o
 first_true : (a b : Bool) → a ≡ true → (a || b) ≡ true
 first_true true b h = refl
 first_true false b h = absurd (true≢false (sym h))
-
-pub stay_more : (xs ys : List ℕ) → StayOver xs (xs ++ ys)
-stay_more xs ys n is = over_both xs ys n ∙ first_true (is_over xs n) (is_over ys n) is
-
-later_true : (a b : Bool) → b ≡ true → (a || b) ≡ true
-later_true true b h = refl
-later_true false b h = h
-
-pub stay_end : (xs ys : List ℕ) → StayOver ys (xs ++ ys)
-stay_end xs ys n is = over_both xs ys n ∙ later_true (is_over xs n) (is_over ys n) is
-
-pub stay_self : (xs : List ℕ) → StayOver xs xs
-stay_self xs n is = is
-
-pub stay_then : (xs ys zs : List ℕ) → StayOver xs ys → StayOver ys zs → StayOver xs zs
-stay_then xs ys zs one two n is = two n (one n is)
-
--- what is behind the same list
-pub stay_behind : (xs ys zs : List ℕ) → StayOver ys zs → StayOver (xs ++ ys) (xs ++ zs)
-stay_behind xs ys zs stay n is = over_both xs zs n ∙ by (is_over xs n) (is_over ys n) refl (sym (over_both xs ys n) ∙ is)
-  where
-    by : (a b : Bool) → is_over ys n ≡ b → (a || b) ≡ true → (a || is_over zs n) ≡ true
-    by true b own h = refl
-    by false b own h = stay n (own ∙ h)
 
 abbrev bound : List ℕ → ℕ
 bound [] = 0
@@ -156,7 +132,7 @@ module _ (firsts ends : BTreeSet ℕ) (runs : List ℕ) (h : AreStretches firsts
       let no_first : contains nat_cmp firsts (suc (run + k)) ≡ false = not_true (contains nat_cmp firsts (suc (run + k))) (λ has. none (suc (run + k)) has (omega arith) (omega arith)) in
       subst (λ n. is_over runs n ≡ false) (sym next) (and_is (is_over runs (suc (run + k))) (is_over runs (run + k)) (sym (h.begun (suc (run + k))) ∙ no_first) before)
 
-  -- no stretch ends behind it
+  -- no stretch ends after it
   pub none_ends : (run : ℕ) → IsNextIn ends run None → false ≡ is_over runs run
   none_ends run none = sym (not_true (is_over runs run) (λ is.
       let later = on run (bound runs) (λ q has more less. none q has more) is in
@@ -169,7 +145,7 @@ module _ (firsts ends : BTreeSet ℕ) (runs : List ℕ) (h : AreStretches firsts
   before_first : (f : ℕ) → contains nat_cmp firsts f ≡ true → was_over runs f ≡ false
   before_first f has = was_false (is_over runs f) (was_over runs f) (sym (h.begun f) ∙ has)
 
-  -- one ends behind it, and none begins before that
+  -- one ends after it, and none begins before that
   ends_first : (run e : ℕ) → run < e → was_over runs e ≡ true → ((q : ℕ) → contains nat_cmp firsts q ≡ true → run < q → q < e → ⊥) → true ≡ is_over runs run
   ends_first run zero less was none = absurd (omega (arith, less))
   ends_first run (suc e) less was none = by (is_over runs run) refl
@@ -195,7 +171,7 @@ module _ (firsts ends : BTreeSet ℕ) (runs : List ℕ) (h : AreStretches firsts
           let still = on run (f - run) (λ q has more up. none q has more (omega (arith, up, there))) is in
           absurd (true≢false (sym (subst (λ n. is_over runs n ≡ true) there still) ∙ was))
 
-  -- one ends behind it, and another begins
+  -- one ends after it, and another begins
   pub both_next : (run e f : ℕ) (v : Bool) → IsNextIn ends run (Some e) → IsNextIn firsts run (Some f) → (v ≡ true → e < f) → (v ≡ false → f ≤ e) → v ≡ is_over runs run
   both_next run e f true end first less more = ends_first run e end.0 (before_end e end.1) (λ q has later up.
       let least = first.2 q has later in let before = less refl in absurd (omega (arith, least, before, up)))
@@ -237,7 +213,7 @@ module _ (firsts ends : BTreeSet ℕ) (runs : List ℕ) (h : AreStretches firsts
       old_first : contains nat_cmp firsts run ≡ false
       old_first = h.begun run ∙ ap (λ v. v && not (was_over runs run)) out
 
-      -- whether the run behind it is
+      -- whether the run after it is
       next_first : contains nat_cmp firsts (suc run) ≡ is_over runs (suc run)
       next_first = h.begun (suc run) ∙ ap (λ v. is_over runs (suc run) && not v) out ∙ yes (is_over runs (suc run))
         where
@@ -285,7 +261,7 @@ module _ (firsts ends : BTreeSet ℕ) (runs : List ℕ) (h : AreStretches firsts
       was_other zero other = refl
       was_other (suc n) other = now_other n (not_true (is_same run n) (λ own. true≢false (sym (subst (λ m. is_same (suc run) (suc m) ≡ true) (same_is run n own) (same_itself (suc run))) ∙ other)))
 
-      ---- The stretches behind it
+      ---- The stretches after it
 
       module _ (f1 f2 e1 e2 : BTreeSet ℕ)
           (puts_f : (q : ℕ) → contains nat_cmp f1 q ≡ cond (begins && is_same run q) true (contains nat_cmp firsts q))
@@ -406,7 +382,7 @@ module _ (firsts ends : BTreeSet ℕ) (runs : List ℕ) (h : AreStretches firsts
   pub alike : (f e : BTreeSet ℕ) → ((q : ℕ) → contains nat_cmp f q ≡ contains nat_cmp firsts q) → ((q : ℕ) → contains nat_cmp e q ≡ contains nat_cmp ends q) → AreStretches f e runs
   alike f e same_f same_e = record { begun = λ n. same_f n ∙ h.begun n; ended = λ n. same_e n ∙ h.ended n }
 
--- no stretch, where no run is over
+-- no stretch, if no run is over
 pub none_over : (f e : BTreeSet ℕ) → f.keys ≡ [] → e.keys ≡ [] → AreStretches f e []
 none_over f e no_f no_e = record { begun = λ n. ap (λ ks. list_any (λ k. is_eq (nat_cmp n k)) ks) no_f; ended = λ n. ap (λ ks. list_any (λ k. is_eq (nat_cmp n k)) ks) no_e ∙ sym (nothing n) }
   where

@@ -16,16 +16,12 @@ abbrev pub was_over : List ℕ → ℕ → Bool
 was_over runs zero = false
 was_over runs (suc n) = is_over runs n
 
--- all of these are among those
-abbrev pub StayOver : List ℕ → List ℕ → Type 0
-StayOver some all = (n : ℕ) → is_over some n ≡ true → is_over all n ≡ true
-
--- A stretch begins at each run of the list where the one before it isn't in it, and ends before each that isn't where the one before is.
+-- A stretch begins at each run of the list if the one before it isn't in it, and ends before each that isn't if the one before is.
 pub record AreStretches (firsts ends : BTreeSet ℕ) (runs : List ℕ) : Type 0 where
   pub begun : (n : ℕ) → contains nat_cmp firsts n ≡ (is_over runs n && not (was_over runs n))
   pub ended : (n : ℕ) → contains nat_cmp ends n ≡ (not (is_over runs n) && was_over runs n)
 
--- the first number of a set behind another one; none where there is none
+-- the first number of a set after another one; none if there is none
 abbrev pub IsNextIn : BTreeSet ℕ → ℕ → Option ℕ → Type 0
 IsNextIn s n None = (q : ℕ) → contains nat_cmp s q ≡ true → n < q → ⊥
 IsNextIn s n (Some m) = (n < m) × (contains nat_cmp s m ≡ true) × ((q : ℕ) → contains nat_cmp s q ≡ true → n < q → m ≤ q)

@@ -42,7 +42,7 @@ HasStill gone s ts = (q : Key) → contains key_cmp s q ≡ (has_key ts q && not
 abbrev pub HasOthers : List ℕ → BTreeSet Key → List Task → Type 0
 HasOthers gone s ts = (q : Key) → is_of gone q.0 ≡ false → contains key_cmp s q ≡ has_key ts q
 
--- the first of a run's keys; none where the set has none
+-- the first of a run's keys; none if the set has none
 abbrev pub IsFirstOf : ℕ → BTreeSet Key → Option Key → Type 0
 IsFirstOf run s None = (q : Key) → q.0 ≡ run → contains key_cmp s q ≡ false
 IsFirstOf run s (Some k) = (k.0 ≡ run) × (contains key_cmp s k ≡ true)

@@ -60,7 +60,7 @@ fn longer(list: &Listed<RunId>, run: RunId) -> Listed<RunId>
     Listed::of::<(Listed<RunId>, RunId), OneMore>(&(list.again(), run))
 }
 
-/// The first number of a set behind another one.
+/// The first number of a set after another one.
 fn next(set: &BTreeSet<u64>, number: u64) -> Option<u64>
     requires { number < 2 ^ 63 }
     ensures { IsNextIn set.now number result }
@@ -116,7 +116,7 @@ fn lacks(set: &BTreeSet<u64>, number: u64) -> bool
     !set.contains(&number)
 }
 
-/// Where the run joins the stretch before it, that one doesn't end there any more, and one behind it doesn't begin there.
+/// If the run joins the stretch before it, that one doesn't end there any more, and one after it doesn't begin there.
 fn merge(begins: bool, closes: bool, firsts: &mut BTreeSet<u64>, ends: &mut BTreeSet<u64>, run: u64)
     requires { run < 2 ^ 63 }
     ensures ends { (q : ℕ) → contains nat_cmp ends.new q ≡ cond (not begins && is_same run q) false (contains nat_cmp ends.old q) }
@@ -148,7 +148,7 @@ fn join(firsts: &mut BTreeSet<u64>, ends: &mut BTreeSet<u64>, run: u64) -> Resul
     Ok(())
 }
 
-/// A run lies in a stretch from now on. Where memory for it is refused, the stretches are as before.
+/// A run lies in a stretch from now on. If memory for it is refused, the stretches are as before.
 fn cover(firsts: &mut BTreeSet<u64>, ends: &mut BTreeSet<u64>, run: u64) -> Result<(), AllocError>
     requires { run < 2 ^ 63 }
     ensures covered { OnOk result ((runs : List ℕ) → AreStretches firsts.old ends.old runs
@@ -180,7 +180,7 @@ impl Over {
         is_within(&self.firsts, &self.ends, run.get())
     }
 
-    /// One run more is over. Where memory for it is refused, all is as before.
+    /// One run more is over. If memory for it is refused, all is as before.
     pub fn add(&mut self, run: RunId) -> Result<(), AllocError>
         ensures added { OnOk result (self.new ≡ self.old ++ run ∷ []) }
         ensures refused { OnErr result (self.new ≡ self.old) }

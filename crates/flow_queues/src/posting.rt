@@ -73,7 +73,7 @@ fn add_apart(keys: &mut Keys, gone: &Over, task: &Task) -> Result<bool, AllocErr
 }
 
 /// Joins the keys of these tasks to those of what was posted, and marks the tasks whose key is new; but none of a run that is gone,
-/// whose keys aren't there any more. Where memory is refused all is as before.
+/// whose keys aren't there any more. If memory is refused all is as before.
 pub fn add_all(
     alloc: Global,
     keys: &mut Keys,

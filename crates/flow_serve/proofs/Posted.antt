@@ -139,11 +139,11 @@ module _ {S : Type 0} where
     fit = answered.fit;
   }
 
-  -- runs that are over are so behind a batch, and behind a board
+  -- runs that are over are so after a batch, and after a board
   pub over_later : (g : Ghosts S) (old new : Keeping S) (over : List ℕ) → IsLater g old new → AreOver g old over → AreOver g new over
   over_later g old new over later was = over_on g old new later.log.0 over later.fit later.found (sym later.log.1) was
 
-  -- where none is let go of in between
+  -- if none is let go of in between
   pub over_between : (g : Ghosts S) (old new : Keeping S) (was gone : List ℕ) → IsStill g old new → gone ≡ was → AreOver g old was → AreOver g new gone
   over_between g old new was gone still same over = subst (AreOver g new) (sym same) (over_later g old new was (still_later g old new still) over)
 

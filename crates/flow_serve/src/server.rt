@@ -74,7 +74,7 @@ fn commit_taken<S: Alter, B: Room, R: Wait>(
 {
     match engine.commit(batch) {
         Outcome::Kept(receipts, stamp) => {
-            // Where memory was refused, the keys of some runs stay: that costs room and nothing else.
+            // If memory was refused, the keys of some runs stay: that costs room and nothing else.
             let _left = publisher.publish(rt, receipts, stamp);
             Ok(())
         }
@@ -274,7 +274,7 @@ fn turn_away<B: Room, R: Wait + time::Clock>(
 ///
 /// By the caller's condition the publisher has published what the engine has kept, as it is of an engine that has kept no
 /// batch since it was opened and a publisher that has published none. What is posted is said for a publisher whose runs that are gone,
-/// if there are any, are over for this engine: one that has published nothing has none, and behind serving it is so.
+/// if there are any, are over for this engine: one that has published nothing has none, and after serving it is so.
 ///
 /// # Failure
 /// E01 before anything is taken: the hub is closed, and all that waits is answered E85. Room for later lists is asked for

@@ -25,7 +25,7 @@ use std::alloc::{AllocError, Global};
 
 impl<B: Room> State<B> {
     /// Posts those of the board's tasks that weren't posted before and are of no run that is gone, and joins their keys to those of what
-    /// was: whoever waits for a board is to be woken. Where room for them is refused the board comes back, and nothing is posted.
+    /// was: whoever waits for a board is to be woken. If room for them is refused the board comes back, and nothing is posted.
     pub(crate) fn post(
         &mut self,
         alloc: Global,

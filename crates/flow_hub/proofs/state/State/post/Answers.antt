@@ -122,7 +122,7 @@ returns-clause-once g c =
     let queue : c.push_marked.new.waiting.items ≡ i.tasks.items ++ new_ones posted ts = c.push_marked.ensures.items ∙ (ap (λ us. us ++ chosen into.result.0.items c.in-Ok.marks.items) c.reserve.ensures.items ∙ ap (λ us. i.tasks.items ++ us) chose) in
     once_by c.tell-me.result.was _ was (still_once posted ts c.self.invariant.0.once)
 
--- where room is refused the keys are as before
+-- if room is refused the keys are as before
 pub returns-in-Err-clause-keys : goal.returns-in-Err-clause-keys
 returns-in-Err-clause-keys g c = rest_same c.args.keys.now c.args.gone.now c.args.me.was c.args.me.was c.see-me.result.was refl (c.see-me.ensures.part c.requires.seat.1) c.requires.keys
 
