@@ -69,7 +69,10 @@ fn add_apart(keys: &mut Keys, gone: &Over, task: &Task) -> Result<bool, AllocErr
     if gone.contains(task.run) {
         return Ok(false);
     }
-    add(keys, task)
+    match add(keys, task) {
+        Ok(new) => Ok(new),
+        Err(refused) => Err(refused),
+    }
 }
 
 /// Joins the keys of these tasks to those of what was posted, and marks the tasks whose key is new; but none of a run that is gone,
@@ -136,10 +139,11 @@ pub fn let_go(keys: &mut Keys, gone: &mut Over, runs: &[RunId]) -> (usize, Resul
     ensures all { OnOk result.1 (result.0 ≡ length runs.now) }
 {
     for i in 0..runs.len() {
-        if let Err(refused) = gone.add(runs[i]) {
+        let run = runs[i];
+        if let Err(refused) = gone.add(run) {
             return (i, Err(refused));
         }
-        let_go_one(keys, runs[i].get());
+        let_go_one(keys, run.get());
     }
     (runs.len(), Ok(()))
 }

@@ -13,7 +13,7 @@ loop-i-preserved c =
     let l = c.loop-i in
     let runs = c.args.runs.now in
     let i = l.i in
-    let run = c.index.result.now in
+    let run = c.index-run.result.now in
     let inside : i < length runs = search rules in
     let now : take (i + 1) runs ≡ take i runs ++ run ∷ [] = take_more runs i run inside ∙ ap (λ x. take i runs ++ x ∷ []) (sym (search rules)) in
     record {
