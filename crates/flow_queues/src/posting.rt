@@ -70,7 +70,7 @@ fn add_apart(keys: &mut Keys, gone: &Over, task: &Task) -> Result<bool, AllocErr
         return Ok(false);
     }
     match add(keys, task) {
-        Ok(new) => Ok(new),
+        Ok(fresh) => Ok(fresh),
         Err(refused) => Err(refused),
     }
 }

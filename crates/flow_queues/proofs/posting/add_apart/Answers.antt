@@ -11,4 +11,4 @@ returns-in-Ok-clause-new c =
     c.in-Ok.ensures.new ∙ ap (λ v. not v && not (contains key_cmp c.args.keys.now (key_of c.args.task.now))) (sym (sym c.contains.ensures ∙ c.if-contains.false))
 
 pub returns-in-Ok-clause-added : goal.returns-in-Ok-clause-added
-returns-in-Ok-clause-added c q = came c.args.keys.now c.add.new.keys (key_of c.args.task.now) c.in-Ok.new c.in-Ok.ensures.new c.in-Ok.ensures.added q
+returns-in-Ok-clause-added c q = came c.args.keys.now c.add.new.keys (key_of c.args.task.now) c.in-Ok.fresh c.in-Ok.ensures.new c.in-Ok.ensures.added q
