@@ -158,7 +158,10 @@ fn cover(firsts: &mut BTreeSet<u64>, ends: &mut BTreeSet<u64>, run: u64) -> Resu
     if is_within(firsts, ends, run) {
         return Ok(());
     }
-    join(firsts, ends, run)
+    if let Err(refused) = join(firsts, ends, run) {
+        return Err(refused);
+    }
+    Ok(())
 }
 
 impl Over {

@@ -13,11 +13,11 @@ loop-i-preserved c =
     let l = c.loop-i in
     let runs = c.args.runs.now in
     let i = l.i in
-    let run = c.index-run.result.now in
+    let run = c.index-runs-i.result in
     let inside : i < length runs = search rules in
     let now : take (i + 1) runs ≡ take i runs ++ run ∷ [] = take_more runs i run inside ∙ ap (λ x. take i runs ++ x ∷ []) (sym (search rules)) in
     record {
-      gone = c.add.ensures.added (search rules) ∙ ap (λ xs. xs ++ run ∷ []) l.invariant.gone ∙ append_assoc c.args.gone.now (take i runs) (run ∷ []) ∙ ap (λ xs. c.args.gone.now ++ xs) (sym now);
+      gone = c.in_default.ensures.added ∙ ap (λ xs. xs ++ run ∷ []) l.invariant.gone ∙ append_assoc c.args.gone.now (take i runs) (run ∷ []) ∙ ap (λ xs. c.args.gone.now ++ xs) (sym now);
       keys = λ q.
           let drops : contains key_cmp c.let_go_one.new.keys q ≡ (contains key_cmp l.keys q && not (is_of (run ∷ []) q.0)) =
           subst (λ (n : ℕ). contains key_cmp c.let_go_one.new.keys q ≡ (contains key_cmp l.keys q && not (is_of (n ∷ []) q.0))) c.get.ensures.value (c.let_go_one.ensures q) in
