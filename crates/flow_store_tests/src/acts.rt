@@ -1,6 +1,6 @@
 //! What is done with a store, one act after the other, and what each is to come to. Whatever kind of store it is, one function
 //! owns its connection between two acts, and each act opens it, asks and closes it again. The tests name acts alone.
-use crate::engines::{Asking, answers_so};
+use crate::engines::{Asking, answers_so, lists_open};
 use crate::keepers::{Keeping, keeps};
 use crate::opening::{Recovering, recovers};
 use crate::positions::{Case, has_positions};
@@ -29,6 +29,8 @@ pub enum Act {
     Asks(Asking),
     /// The same with so many positions at most.
     AsksWith(usize, Asking),
+    /// An engine is opened for it, and lists these runs as open.
+    Lists(&'static [u64]),
     /// This was written since the store was new, or since this was asked before.
     Wrote(&'static [u8]),
 }
@@ -101,6 +103,7 @@ fn done<S: Alter>(
         Act::AsksWith(most, asking) => {
             asked(alloc, conn, Settings::new(16, 4, most), asking, out)
         }
+        Act::Lists(runs) => lists_open(alloc, conn, runs),
         Act::Wrote(wanted) => (is_written(out, wanted), conn),
         other => lent(conn, other),
     }

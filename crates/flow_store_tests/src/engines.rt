@@ -1,6 +1,7 @@
 //! What is done with an engine, and what is told of it. One function owns the engine, lends it to what asks it, and closes it.
 use crate::calls::{Call, Calls, Told, Want, add_receipts, command, commands, is_as, named_by};
 use crate::keepers::{batch, code_of};
+use crate::positions::are_waiting;
 use crate::verifying::{Verdict, is_reported};
 use flow_base::command::Command;
 use flow_commit::batch::Batch;
@@ -11,6 +12,7 @@ use flow_lines::batch::BatchSize;
 use flow_lines::drive::drive_lines;
 use flow_lines::streams::{Reading, Writing};
 use flow_model::answer::{Answer, Stop};
+use flow_move::watch::Unwatched;
 use flow_settings::settings::Settings;
 use sqlite::{Alter, Connection};
 use std::alloc::Global;
@@ -250,6 +252,18 @@ pub fn answers_so<S: Alter>(
             let is = is_answered_so(alloc, &mut engine, asking, out);
             (is, engine.close())
         }
+        Err((_fault, conn)) => (false, conn),
+    }
+}
+
+/// Whether an engine that is opened for it lists these runs as open, each waiting on its activity, and the store after it.
+pub fn lists_open<S: Alter>(
+    alloc: Global,
+    conn: Connection<S>,
+    runs: &[u64],
+) -> (bool, Connection<S>) {
+    match Engine::open_listed(alloc, conn, Settings::usual(), &mut Unwatched) {
+        Ok((engine, found)) => (are_waiting(found.as_slice(), runs), engine.close()),
         Err((_fault, conn)) => (false, conn),
     }
 }

@@ -1,4 +1,4 @@
-//! Lists of commands answered by an engine, with ample memory, and the runs that it then finds open.
+//! Lists of commands answered by an engine, with ample memory, and the runs that the next one finds open.
 use crate::acts::{Act, are_so, are_so_failing};
 use crate::calls::{Call, Named, Told, Want};
 use crate::engines::Asking;
@@ -56,5 +56,27 @@ const GIVEN_UP: &[Act] = &[Act::Asks(Asking::Answers(
 #[test]
 fn a_read_that_fails_gives_it_up(rt: HostRuntime) -> Result<(), Fail> {
     assert!(rt; are_so_failing(rt.alloc(), 34, 1, GIVEN_UP));
+    Ok(())
+}
+
+const OPEN: &[Act] = &[
+    Act::Lists(&[]),
+    Act::Asks(Asking::Answers(
+        &[
+            Call::Register,
+            Call::Start("f"),
+            Call::Start("g"),
+            Call::Start("h"),
+            Call::Complete(1),
+        ],
+        Want::Kept,
+    )),
+    Act::Lists(&[2, 3]),
+];
+
+// The first of three runs has completed, the others wait.
+#[test]
+fn each_open_run_is_listed(rt: HostRuntime) -> Result<(), Fail> {
+    assert!(rt; are_so(rt.alloc(), OPEN));
     Ok(())
 }

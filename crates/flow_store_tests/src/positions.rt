@@ -13,7 +13,8 @@ use flow_base::value::Value;
 use flow_check::language::Language;
 use flow_programs::kept::Kept;
 use flow_recover::positions::Position;
-use flow_recover::replayer::Replayer;
+use flow_recover::replayer::{Replayer, positions};
+use flow_rows::book::WholeBook;
 use flow_tables::listener::Listener;
 use flow_tables::tables::Tables;
 use sqlite::{Alter, Connection};
@@ -117,7 +118,7 @@ pub fn is_waiting(position: &Position, run: u64) -> bool {
 }
 
 /// Whether the runs with these numbers wait, each on its activity, and no other has a position.
-fn are_waiting(list: &[Position], runs: &[u64]) -> bool {
+pub fn are_waiting(list: &[Position], runs: &[u64]) -> bool {
     let mut are = list.len() == runs.len();
     for (position, run) in list.iter().zip(runs) {
         are = are && is_waiting(position, *run);
@@ -254,5 +255,43 @@ const NO_TEXT: &[Act] = &[BEGUN, Act::Has(Case::NoText)];
 #[test]
 fn a_run_without_a_text_is_refused(rt: HostRuntime) -> Result<(), Fail> {
     assert!(rt; are_so(rt.alloc(), NO_TEXT));
+    Ok(())
+}
+
+// A run of it waits for a signal as soon as it has begun.
+const WAITS: &str = "workflow w(n: int) { signal s: int; let v = 0; v = wait signal s; return v; }";
+
+// The book in lists that has one text, and one run of it, which has only begun.
+fn small_book(alloc: Global, text: &str) -> Option<WholeBook> {
+    let texts = vec![in alloc; RawText::new(alloc, text).ok()?].ok()?;
+    let runs = vec![in alloc; idle_run(alloc, 1)?].ok()?;
+    Some(WholeBook {
+        texts: Sequence::from_vec(texts),
+        runs: Sequence::from_vec(runs),
+    })
+}
+
+// Whether the first run has the only position, behind one event.
+fn is_first_alone(list: &[Position]) -> bool {
+    match list {
+        [position] => position.run.get() == 1 && position.stance.events() == 1,
+        _ => false,
+    }
+}
+
+// Whether the run of the small book has a position, or else lacks its second event.
+fn is_first(alloc: Global, text: &str, is_replayed: bool) -> bool {
+    let Some(book) = small_book(alloc, text) else {
+        return false;
+    };
+    match positions(alloc, Kept::new(alloc, Language), &book) {
+        Ok(list) => is_replayed && is_first_alone(list.as_slice()),
+        Err(fault) => !is_replayed && lacks_its_second_event(&fault, 1),
+    }
+}
+
+#[test]
+fn a_book_in_lists_has_positions(rt: HostRuntime) -> Result<(), Fail> {
+    assert!(rt; is_first(rt.alloc(), WAITS, true) && is_first(rt.alloc(), A, false));
     Ok(())
 }
