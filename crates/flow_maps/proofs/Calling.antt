@@ -1,32 +1,47 @@
 -- Events by which activities were scheduled, that are known of a history.
-use Rattle.std.specs.Prelude.{◌≡◌, ◌+◌, ◌<◌, ◌∷◌, ◌++◌}
-use Rattle.flow_maps.proofs.Names.{ℕ, zero, suc, Bool, true, false, cond, List, [], length, Option, Some, None, slice_get, refl, sym, ap, subst, ◌∙◌, arith, get_or, IfSome, BTreeMap, get, nat_cmp, Cmd, Event, Asked, Run, Turn, nth, with_turn, traces, turn_events, nth_at, event_of, is_run, replaced, AreCalls, IsEvent}
-use Rattle.flow_maps.proofs.Planning.{none_is}
-use Rattle.flow_maps.proofs.Slots.{run_is}
+use Rattle.std.specs.Prelude.{◌≡◌, ◌+◌, ◌<◌, ◌∷◌, ◌++◌, ◌⊎◌}
+use Rattle.flow_maps.proofs.Names.{ℕ, zero, suc, List, [], length, Option, Some, None, slice_get, take, drop, inl, inr, refl, sym, ap, subst, ◌∙◌, arith, get_or, IfSome, Cmd, Event, Asked, Run, Turn, nth, with_turn, traces, turn_events, nth_at, event_of, AreCalls}
+use Rattle.flow_maps.proofs.Planning.{none_is, some_is}
 
 -- none is known
-pub no_calls : (m : BTreeMap ℕ Event) → ((n : ℕ) → get nat_cmp m n ≡ None) → (h : List Event) → AreCalls m h
-no_calls m none h n = subst (λ o. IsEvent o (event_of h n)) (sym (none n)) tt
+pub no_calls : (es : List Event) → es ≡ [] → (h : List Event) → AreCalls es h
+no_calls es none h k e at = absurd (none_is e (ap (λ xs. slice_get xs k) (sym none) ∙ at))
 
-module _ (m m' : BTreeMap ℕ Event) (id : ℕ) (h : List Event) (known : AreCalls m h) where
-  pub call_in : (e : Event) → ((n : ℕ) → get nat_cmp m' n ≡ replaced id (Some e) (λ k. get nat_cmp m k) n) → event_of h id ≡ Some e → AreCalls m' h
-  call_in e put at n = subst (λ o. IsEvent o (event_of h n)) (sym (put n)) (by (is_run id n) refl)
-    where
-      by : (v : Bool) → is_run id n ≡ v → IsEvent (cond v (Some e) (get nat_cmp m n)) (event_of h n)
-      by true own = subst (λ k. event_of h k ≡ Some e) (run_is id n own) at
-      by false other = known n
+-- what stands in a list with one more stands in the list, or is that one
+added : {A : Type 0} (xs : List A) (x e : A) (k : ℕ) → slice_get (xs ++ x ∷ []) k ≡ Some e → (slice_get xs k ≡ Some e) ⊎ (x ≡ e)
+added [] x e zero at = inr (some_is x e at)
+added [] x e (suc k) at = absurd (none_is e at)
+added (y ∷ xs) x e zero at = inl at
+added (y ∷ xs) x e (suc k) at = added xs x e k at
+
+-- and what stands in a list without one stands in the list
+left : {A : Type 0} (xs : List A) (i m k : ℕ) (e : A) → m ≡ i + 1 → slice_get (take i xs ++ drop m xs) k ≡ Some e → (j : ℕ) × (slice_get xs j ≡ Some e)
+left xs i zero k e is at = absurd (omega (arith, is))
+left [] zero (suc m) k e is at = absurd (none_is e at)
+left [] (suc i) (suc m) k e is at = absurd (none_is e at)
+left (x ∷ xs) zero (suc m) k e is at = let none : m ≡ 0 = omega (arith, is) in (suc k, subst (λ n. slice_get (drop n xs) k ≡ Some e) none at)
+left (x ∷ xs) (suc i) (suc m) zero e is at = (zero, at)
+left (x ∷ xs) (suc i) (suc m) (suc k) e is at = let there = left xs i m k e (omega (arith, is)) at in (suc there.0, there.1)
+
+module _ (es more : List Event) (h : List Event) (known : AreCalls es h) where
+  pub call_in : (e : Event) → more ≡ es ++ e ∷ [] → event_of h e.id ≡ Some e → AreCalls more h
+  call_in e is there k x at = elim (added es e x k (ap (λ xs. slice_get xs k) (sym is) ∙ at)) [
+    | inl old ↦ known k x old
+    | inr own ↦ subst (λ y. event_of h y.id ≡ Some y) own there
+  ]
 
   -- what is let go says nothing any more
-  pub call_out : ((n : ℕ) → get nat_cmp m' n ≡ replaced id None (λ k. get nat_cmp m k) n) → AreCalls m' h
-  call_out out n = subst (λ o. IsEvent o (event_of h n)) (sym (out n)) (by (is_run id n))
-    where
-      by : (v : Bool) → IsEvent (cond v None (get nat_cmp m n)) (event_of h n)
-      by true = tt
-      by false = known n
+  pub call_out : (i : ℕ) → more ≡ take i es ++ drop (i + 1) es → AreCalls more h
+  call_out i is k x at = let there = left es i (i + 1) k x refl (ap (λ xs. slice_get xs k) (sym is) ∙ at) in known there.0 x there.1
 
-pub call_found : (m : BTreeMap ℕ Event) (id : ℕ) (k : Event) (o : Option Event) → get nat_cmp m id ≡ Some k → IfSome o (λ e. e ≡ k) → IfSome o (λ e. (h : List Event) → AreCalls m h → event_of h id ≡ Some e)
-call_found m id k None there is = tt
-call_found m id k (Some e) there is = λ h known. subst (λ o. IsEvent o (event_of h id)) there (known id) ∙ ap Some (sym is)
+pub at_place : {A : Type 0} (xs : List A) (i : ℕ) (x : A) → i < length xs → x ≡ get_or xs i x → slice_get xs i ≡ Some x
+at_place [] i x less is = absurd (omega (arith, less))
+at_place (y ∷ xs) zero x less is = ap Some (sym is)
+at_place (y ∷ xs) (suc i) x less is = at_place xs i x (omega (arith, less)) is
+
+pub call_found : (es : List Event) (i id : ℕ) (k : Event) (o : Option Event) → slice_get es i ≡ Some k → k.id ≡ id → IfSome o (λ e. e ≡ k) → IfSome o (λ e. (h : List Event) → AreCalls es h → event_of h id ≡ Some e)
+call_found es i id k None there own is = tt
+call_found es i id k (Some e) there own is = λ h known. ap (event_of h) (sym own) ∙ known i k there ∙ ap Some (sym is)
 
 ---- A turn more
 
@@ -39,12 +54,8 @@ pub nth_longer : {A : Type 0} (xs ys : List A) (n : ℕ) (x : A) → nth xs n �
 nth_longer xs ys zero x at = absurd (none_is x at)
 nth_longer xs ys (suc k) x at = nth_at (xs ++ ys) (suc k) k refl ∙ get_longer xs ys k x (sym (nth_at xs (suc k) k refl) ∙ at)
 
-pub calls_on : (m : BTreeMap ℕ Event) (t : Turn) (r : Run) → AreCalls m r.history → AreCalls m (with_turn t r).history
-calls_on m t r known n = by (get nat_cmp m n) (known n)
-  where
-    by : (o : Option Event) → IsEvent o (event_of r.history n) → IsEvent o (event_of (with_turn t r).history n)
-    by None h = tt
-    by (Some e) h = nth_longer r.history (turn_events (length r.history + 1) t.at t.input t.commands) n e h
+pub calls_on : (es : List Event) (t : Turn) (r : Run) → AreCalls es r.history → AreCalls es (with_turn t r).history
+calls_on es t r known k e at = nth_longer r.history (turn_events (length r.history + 1) t.at t.input t.commands) e.id e (known k e at)
 
 -- the event of a turn's command
 traced_at : (n at : ℕ) (cs : List Cmd) (k : ℕ) (c : Cmd) → k < length cs → c ≡ get_or cs k c → slice_get (traces n at cs) k ≡ Some (record { id = n + k; at = at; what = Asked c })

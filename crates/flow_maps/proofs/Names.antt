@@ -23,7 +23,7 @@ pub use Rattle.flow_maps.specs.KnownTexts.{IsText, IsTextCount, KnowsBodies, Kno
 pub use Rattle.flow_maps.specs.Names.{at_name, both, is_name}
 pub use Rattle.flow_maps.specs.OfRuns.{is_run, replaced}
 pub use Rattle.flow_maps.specs.Outlooks.{Waiting, due_after, first_timer, is_by, is_within, moment_of, outlook_of, ready_of, ready_within, sooner, soonest, waiting, waiting_from, waiting_in, with_next, with_ready}
-pub use Rattle.flow_maps.specs.Seats.{AreCalls, IsEvent, IsSeat, IsSeated, Knows, KnowsOpen, KnowsRuns, head_behind, made_of, seat_tasks}
+pub use Rattle.flow_maps.specs.Seats.{AreCalls, IsSeat, IsSeated, Knows, KnowsOpen, KnowsRuns, head_behind, made_of, seat_tasks}
 pub use Rattle.flow_maps.specs.Serving.{KnowsFacts, Serves}
 pub use Rattle.flow_maps.specs.Signals.{AreOf, IsTaken, IsUntaken, asked_by, at_request, or_later, signal_of, with_history}
 pub use Rattle.flow_maps.specs.Timers.{of_run, timers_at, timers_of}

@@ -1,5 +1,5 @@
 -- What is known of runs: of each open one its seat, and of all of them how many there are, their names and what they wait for.
-use Rattle.std.specs.Prelude.{◌≡◌, ◌+◌, ℕ, true, false, List, [], length, Option, Some, None}
+use Rattle.std.specs.Prelude.{◌≡◌, ◌+◌, ℕ, true, false, List, [], length, Option, Some, None, slice_get}
 use Rattle.std.specs.BTreeMap.{BTreeMap, get}
 use Rattle.std.specs.Ordering.{nat_cmp}
 use Rattle.flow_base.specs.declared.event.Event.{Event}
@@ -25,20 +25,15 @@ use Rattle.flow_maps.specs.declared.seat.Seat.{Seat}
 
 ---- One run
 
--- what is known of an event is so
-abbrev pub IsEvent : Option Event → Option Event → Type 0
-IsEvent None o = Unit {0}
-IsEvent (Some e) o = o ≡ Some e
-
--- and of the events of a history
-abbrev pub AreCalls : BTreeMap ℕ Event → List Event → Type 0
-AreCalls m h = (n : ℕ) → IsEvent (get nat_cmp m n) (event_of h n)
+-- events that stand in a history, each under its own number
+abbrev pub AreCalls : List Event → List Event → Type 0
+AreCalls es h = (k : ℕ) → (e : Event) → slice_get es k ≡ Some e → event_of h e.id ≡ Some e
 
 -- What is known of a run, be it open or not.
 pub record IsSeat (s : Seat) (r : Run) : Type 0 where
   pub head : head_of r ≡ s.head
   pub timers : open_timers r.history ≡ s.timers
-  pub calls : AreCalls s.calls r.history
+  pub calls : AreCalls s.calls.items r.history
 
 -- An open run has its seat; one that is closed has none, and nothing is open of it.
 abbrev pub IsSeated : Option Seat → Option Run → Type 0

@@ -266,7 +266,7 @@ impl Maps {
         ensures { IfSome result (λ e. (b : Book) → Serves self.now b → Some e ≡ event_at b.runs run event) }
     {
         match self.seat(run) {
-            Some(seat) => find_call(self.journal.alloc, &seat.calls, event),
+            Some(seat) => find_call(self.journal.alloc, seat.calls.as_slice(), event),
             None => None,
         }
     }

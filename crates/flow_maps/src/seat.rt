@@ -20,7 +20,6 @@ use flow_view::head::{Head, head_of};
 use flow_view::history::{is_open, timers_of};
 use flow_view::outline::Outline;
 use std::alloc::Global;
-use std::collections::BTreeMap;
 use std::mem::replace;
 
 /// A run without its history, and what it waits for.
@@ -87,9 +86,9 @@ pub(crate) fn seat_of(alloc: Global, whole: &Run) -> Option<Option<Seat>>
 /// What is known of the activities of a run, which from now on is nothing.
 fn taken_calls(alloc: Global, calls: &mut Calls) -> Calls
     ensures taken { result ≡ calls.old }
-    ensures none { (h : List AnEvent) → AreCalls calls.new h }
+    ensures none { (h : List AnEvent) → AreCalls calls.new.items h }
 {
-    replace(calls, BTreeMap::new(alloc))
+    replace(calls, Vec::new(alloc))
 }
 
 /// The same seat, which takes with it what is known of activities.
@@ -178,7 +177,7 @@ fn unbegun(alloc: Global, flow: &Key, request: &Option<Key>, text: TextNo) -> Op
         Ok(head) => Some(Seat {
             head,
             timers: Sequence::new(alloc),
-            calls: BTreeMap::new(alloc),
+            calls: Vec::new(alloc),
         }),
         Err(_) => None,
     }

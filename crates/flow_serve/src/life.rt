@@ -4,8 +4,10 @@ ghost use Rattle.sqlite.specs.Held.{state};
 ghost use Rattle.sqlite.specs.State.{HasCleanDisk};
 ghost use Rattle.flow_tables.specs.Owned.{state_of};
 ghost use Rattle.flow_hub.specs.Knowing.{nothing};
+ghost use Rattle.flow_hub.specs.Publishing.{TakesAll};
 ghost use Rattle.flow_engine.specs.Headline.{IsLife, Refused};
 ghost use Rattle.flow_serve.specs.Living.{HasLivedServing, ServesHub};
+ghost use Rattle.flow_serve.specs.Posting.{Posts};
 
 use crate::server::serve;
 use flow_base::fault::Fault;
@@ -33,6 +35,8 @@ fn served<S: Alter, B: Room, R: Wait + time::Clock, C: Clock>(
     ensures serves { ServesHub S.Store engine result.0 publisher.new.history }
     ensures closed { OnOk result.1 (publisher.new.ended ≡ publisher.old.ended) }
     ensures closes { IfErr result.1 (λ _. publisher.new.ended ≡ true) }
+    ensures whole { TakesAll most publisher.old publisher.new }
+    ensures posts { Posts S.Store (C.tells clock.now) result.0 publisher.old.posted publisher.new.posted }
 {
     let mut engine = engine;
     let outcome = serve(&mut engine, rt, publisher, clock, most);
@@ -60,6 +64,10 @@ pub fn live<S: Alter, B: Room, R: Wait + time::Clock, C: Clock>(
     // The outcome that is told is that of serving: on Ok the publisher hasn't closed the hub, and behind a fault it has.
     ensures closed { IfOk result (λ r. OnOk r.1 (publisher.new.ended ≡ publisher.old.ended)) }
     ensures closes { IfOk result (λ r. IfErr r.1 (λ _. publisher.new.ended ≡ true)) }
+    // What waited was taken together: `most` at once, or all.
+    ensures whole { OnOk result (TakesAll most publisher.old publisher.new) }
+    // All that is posted is what boards of the kept book name, each at a moment of the clock.
+    ensures posts { IfOk result (λ r. Posts S.Store (C.tells clock.now) r.0 publisher.old.posted publisher.new.posted) }
     ensures early { IfErr result (λ e. HasCleanDisk (state S.Store e.1) → IsLife S.Store (Refused conn e.0 e.1)) }
 {
     match Engine::open(alloc, conn, settings) {

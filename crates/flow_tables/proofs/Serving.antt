@@ -1,6 +1,6 @@
 -- What the tables keep true of what is known of the book, call by call.
 use Rattle.std.specs.Prelude.{◌≡◌, ◌+◌, ◌<◌, ◌++◌, ◌∷◌}
-use Rattle.flow_tables.proofs.Names.{Change, Book, Database, HasCleanDisk, State, Option, true, ℕ, HasBegun, HasCommitted, HasEnded, Refusal, ViewFault, Err, IfOk, None, Ok, OnOk, [], length, List, refl, Result, changed, subst, ◌∙◌, sym, ap, true≢false, book_of, tables_in, IsOwn, told_answer, IsSure, ReadsBook, IsNoted, Maps, noted_fault}
+use Rattle.flow_tables.proofs.Names.{Change, Book, Database, HasCleanDisk, State, Option, false, true, ℕ, HasBegun, HasCommitted, HasEnded, Refusal, ViewFault, Err, IfOk, None, Ok, OnOk, [], length, List, refl, Result, changed, subst, ◌∙◌, sym, ap, true≢false, book_of, tables_in, IsOwn, told_answer, IsSure, ReadsBook, IsNoted, Maps, noted_fault}
 use Rattle.std.proofs.Common.{take, get_or}
 use Rattle.std.proofs.lemmas.List.{take_more}
 use Rattle.flow_maps.specs.Serving.{Serves}

@@ -1,7 +1,7 @@
 //! A running engine: the threads around the one that serves.
 ghost use Rattle.std.specs.Prelude.{◌≡◌, ◌≤◌, false, [], length, IfOk, IfErr, OnOk};
 ghost use Rattle.flow_hub.specs.Knowing.{IsBefore, IsSamePart, nothing};
-ghost use Rattle.flow_hub.specs.Publishing.{IsDone};
+ghost use Rattle.flow_hub.specs.Publishing.{IsDone, TakesAll};
 ghost use Rattle.flow_hub.specs.Seating.{IsRoomOf};
 ghost use Rattle.flow_engine.specs.Answering.{Follows};
 ghost use Rattle.flow_work.specs.Endings.{EndsServing, HasRun, HasServedAll};
@@ -442,6 +442,8 @@ pub(crate) fn serve_new<S: Alter, B: Room, R: Wait + time::Clock, C: Clock>(
     // All that was submitted is answered and the hub is closed, on Ok by somebody who has the hub.
     ensures done { IsDone publisher.new }
     ensures closed { OnOk result (publisher.new.ended ≡ false) }
+    // What waited was taken together: `most` at once, or all.
+    ensures whole { TakesAll most publisher.old publisher.new }
     ensures goes_on { OnOk result (engine.new.halted ≡ engine.old.halted) }
     ensures found { engine.new.found ≡ engine.old.found }
     ensures follows { Follows S.Store engine.old engine.new }

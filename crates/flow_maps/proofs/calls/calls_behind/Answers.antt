@@ -1,10 +1,10 @@
 use Rattle.std.specs.Prelude.{◌≡◌}
-use Rattle.flow_maps.proofs.Names.{rules, true}
+use Rattle.flow_maps.proofs.Names.{rules, true, subst, sym, with_turn, AreCalls}
 use Rattle.flow_maps.proofs.Calling.{calls_on}
 use Rattle.flow_maps.proofs.calls.calls_behind.Goals as goal
 
 pub loop-place-init : goal.loop-place-init
-loop-place-init c r long known = calls_on c.end.new.calls c.args.turn.now r (c.end.ensures r.history known)
+loop-place-init c r long known = subst (λ es. AreCalls es (with_turn c.args.turn.now r).history) (sym c.make_room.ensures) (calls_on c.end.new.calls.items c.args.turn.now r (c.end.ensures r.history known))
 
 pub loop-place-preserved : goal.loop-place-preserved
 loop-place-preserved c r long known =
