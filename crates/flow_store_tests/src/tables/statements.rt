@@ -11,10 +11,13 @@ use flow_tables::book_changes::put_change;
 use flow_tables::create::create;
 use flow_tables::fault::Refusal;
 use flow_tables::known::{any_standing, nothing_known};
-use flow_tables::open::open;
+use flow_tables::listener::Nobody;
+use flow_tables::tables::Tables;
 use flow_tables::turn_changes::put_turn;
-use sqlite::{Connection, Error};
+use flow_view::view::View;
+use sqlite::{Connection, Error, MemStore};
 use std::alloc::Global;
+use std::mem::replace;
 
 /// A statement, and its answer.
 #[derive(Clone, Copy)]
@@ -23,7 +26,7 @@ pub enum Statement {
     Makes,
     MakesNothing,
     /// The tables are opened, with so many texts and runs.
-    Opens(usize, usize),
+    Opens(u64, u64),
     /// An opening is refused, since the tables aren't ours.
     IsNotOurs,
     /// A transaction begins, is committed, rolled back, or ended if one runs.
@@ -57,17 +60,37 @@ fn makes(conn: &mut Memory) -> bool {
     create(conn).is_ok()
 }
 
-/// How many texts and runs the book has that opening gives.
-fn opened(alloc: Global, conn: &mut Memory) -> Result<(usize, usize), Fault> {
-    match open(alloc, &Language, conn) {
-        Ok(book) => Ok((book.texts.as_slice().len(), book.runs.as_slice().len())),
-        Err(fault) => Err(fault),
+/// How many texts and runs tables show, if they can be read.
+fn shown(tables: &mut Tables<MemStore>) -> Option<(u64, u64)> {
+    tables.begin().ok()?;
+    let texts = tables.text_count().ok()?;
+    let runs = tables.run_count().ok()?;
+    tables.rollback().ok()?;
+    Some((texts, runs))
+}
+
+/// How many texts and runs the book has that opening gives. The connection comes back, whatever it gives.
+fn opened(alloc: Global, conn: &mut Memory) -> Result<Option<(u64, u64)>, Fault> {
+    let Ok(other) = Connection::open_in_memory(alloc) else {
+        return Ok(None);
+    };
+    match Tables::open(alloc, &Language, replace(conn, other), Nobody) {
+        Ok((mut tables, _book, _nobody)) => {
+            let found = shown(&mut tables);
+            *conn = tables.into_connection();
+            Ok(found)
+        }
+        Err((fault, back)) => {
+            *conn = back;
+            Err(fault)
+        }
     }
 }
 
-fn opens(alloc: Global, conn: &mut Memory, texts: usize, runs: usize) -> bool {
+fn opens(alloc: Global, conn: &mut Memory, texts: u64, runs: u64) -> bool {
     match opened(alloc, conn) {
-        Ok(counts) => counts == (texts, runs),
+        Ok(Some(found)) => found == (texts, runs),
+        Ok(None) => false,
         Err(_) => false,
     }
 }

@@ -9,8 +9,8 @@ use Rattle.flow_engine.proofs.Found.{recovered_found}
 use Rattle.flow_engine.proofs.Standing.{keeps_again, open_stands}
 use Rattle.flow_engine.proofs.engine.Engine.open_listed.Goals as goal
 
-pub over-requires : goal.over-requires
-over-requires g c = recovered_found g.S.Store c.args.conn c.in-Ok.keeper c.in-Ok.found.items c.in-Ok.ensures.opened c.in-Ok.ensures.found
+pub over-engine-requires : goal.over-engine-requires
+over-engine-requires g c = recovered_found g.S.Store c.args.conn c.in-Ok.keeper c.in-Ok.found.items c.in-Ok.ensures.opened c.in-Ok.ensures.found
 
 -- What is said of the keeper is said of the engine over it.
 pub returns-in-Ok-clause-positions : goal.returns-in-Ok-clause-positions
