@@ -53,14 +53,14 @@ const TWO: &[Act] = &[
     )),
 ];
 
-/// A batch with one more, which reads the run whole, and a batch behind it.
+/// A batch with one more, which reads the run's events, and a batch after it.
 const THREE: &[Act] = &[
     STEPS,
     Act::Keeps(Keeping::Commits(
         &[
             (1, Call::Register),
             (2, Call::Start("f")),
-            (3, Call::Describe),
+            (3, Call::History(1)),
             (4, Call::RegisterEmpty),
         ],
         Cut::InBatches(3),
