@@ -1,3 +1,4 @@
+pub mod Shut
 pub mod Following
 pub mod Ends
 pub mod Lawful
@@ -6,6 +7,8 @@ pub mod Posting
 pub mod Sealing
 pub mod Seating
 pub mod Looking
+pub mod Closing
+pub mod Overs
 pub mod BoardRows
 pub mod Refusing
 pub mod Handed

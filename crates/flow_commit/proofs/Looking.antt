@@ -273,10 +273,6 @@ among_self posted q is = is
 pub none_among : (posted : List Key) → AreAmong [] posted
 none_among posted q is = absurd (true≢false (sym is))
 
-were_among : (some all : List Key) (since n : ℕ) (ts : List OpenActivity) → AreAmong some all → WerePosted some since n ts → WerePosted all since n ts
-were_among some all since n [] among were = tt
-were_among some all since n (t ∷ ts) among were = (λ sooner. among (n, t.event, t.attempt) (were.0 sooner), were_among some all since n ts among were.1)
-
 never_sooner : (posted : List Key) (n : ℕ) (ts : List OpenActivity) → WerePosted posted 0 n ts
 never_sooner posted n [] = tt
 never_sooner posted n (t ∷ ts) = (λ sooner. absurd (omega (arith, sooner)), never_sooner posted n ts)
@@ -285,9 +281,6 @@ module _ {S : Type 0} (g : Ghosts S) where
   -- where all is looked at
   pub none_looked : (t : Stored S) (posted : List Key) → HasLooked g t 0 posted
   none_looked t posted fit up b keeps n = never_sooner posted n (tasks_at b n)
-
-  pub looked_among : (t : Stored S) (since : ℕ) (some all : List Key) → AreAmong some all → HasLooked g t since some → HasLooked g t since all
-  looked_among t since some all among looked fit up b keeps n = were_among some all since n (tasks_at b n) among (looked fit up b keeps n)
 
   -- of the one book that an open connection keeps
   pub looked_at : (t : Stored S) (since : ℕ) (posted : List Key) (first : Book) → (IsFit g t → IsUp g t → Keeps (state_of g t) first × AllWerePosted posted since first) → HasLooked g t since posted

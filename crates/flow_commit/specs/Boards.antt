@@ -1,5 +1,5 @@
 -- What a board names: the tasks that are ready and weren't posted, and what else whoever posts them needs to know.
-use Rattle.std.specs.Prelude.{◌≡◌, ℕ, ◌+◌, ◌<◌, Bool, true, ◌&&◌, not, ◌++◌, List, [], ◌∷◌, filter, Option, Some, None, nat_eq, nat_lt, if◌then◌else◌, refl}
+use Rattle.std.specs.Prelude.{◌≡◌, ℕ, ◌+◌, ◌<◌, Bool, true, false, ◌&&◌, not, ◌++◌, List, [], ◌∷◌, filter, Option, Some, None, nat_eq, nat_lt, if◌then◌else◌, refl}
 use Rattle.std.specs.Coded.{Coded, code_by, coded×, coded_ℕ, coded_list, coded_option}
 use Rattle.std.specs.List.{list_any}
 use Rattle.flow_base.specs.Syntax.{Bytes}
@@ -23,6 +23,7 @@ use Rattle.flow_view.specs.declared.head.Head.{Head}
 use Rattle.flow_view.specs.declared.fault.ViewFault.{ViewFault}
 use Rattle.flow_view.specs.declared.fault.ViewFault.TheVariants as view
 use Rattle.flow_commit.specs.declared.waiting.Draft.{Draft}
+use Rattle.flow_commit.specs.Over.{is_over}
 use Rattle.flow_base.specs.Keys.{Key, key_code}
 use Rattle.flow_base.specs.declared.task.Task.{Task}
 use Rattle.flow_base.specs.contracts.task.Task as task_row
@@ -143,6 +144,14 @@ AllWerePosted posted since b = (n : ℕ) → WerePosted posted since n (tasks_at
 -- all of these keys are among those
 abbrev pub AreAmong : List Key → List Key → Type 0
 AreAmong some all = (q : Key) → is_posted some q ≡ true → is_posted all q ≡ true
+
+-- and those of other runs than these are
+abbrev pub AreStill : List ℕ → List Key → List Key → Type 0
+AreStill over some all = (q : Key) → is_posted some q ≡ true → is_over over q.0 ≡ false → is_posted all q ≡ true
+
+-- whether one of the tasks is of such a run
+abbrev pub names_over : List ℕ → List Task → Bool
+names_over over ts = list_any (λ (t : Task). is_over over t.run) ts
 
 -- When more is to be done: the least of the open timers' due moments and of the ready moments after this one.
 abbrev pub next_due : ℕ → Book → Option ℕ

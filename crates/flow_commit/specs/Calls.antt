@@ -15,9 +15,10 @@ use Rattle.flow_view.specs.declared.fault.ViewFault.TheVariants.{StoreRefused}
 use Rattle.flow_tables.specs.Owned.{Follows, state_of}
 use Rattle.flow_commit.specs.declared.outcome.Outcome.{Outcome}
 use Rattle.flow_commit.specs.declared.outcome.Outcome.TheVariants as outcomes
-use Rattle.flow_commit.specs.Boards.{AreAmong, Boarded, IsBoardOf, IsOfBoard}
+use Rattle.flow_commit.specs.Boards.{AreAmong, Boarded, IsBoardOf, IsOfBoard, names_over}
 use Rattle.flow_commit.specs.Committing.{HasCommitted, HasGoneOn, HasNoRoom, HasNoted, IsDown, IsFor, IsRefusedFor}
 use Rattle.flow_commit.specs.Keeping.{Keeping, IsFit, IsUp, KeepsBook, kept_book, logged, rules}
+use Rattle.flow_commit.specs.Shutting.{AreOver, HasClosed}
 use Rattle.flow_commit.specs.Verifying.{IsOfVerify, IsVerified}
 
 -- A batch was applied and committed, the whole of it or nothing.
@@ -31,6 +32,8 @@ pub record CommitSays {S : Type 0} (g : Ghosts S) (old new : Keeping S) (batch :
   pub same : new.stored.opened ≡ old.stored.opened
   pub found : new.found ≡ old.found
   pub posted : new.posted ≡ old.posted
+  -- what its stamp names as closed is over, and no later command opens it again
+  pub closed : HasClosed g new result
   pub noted : HasNoted g old new batch result
   -- an open connection was open before, and kept a book unless nothing was done
   pub up : IsFit g new → IsUp g new → IsUp g old
@@ -61,6 +64,8 @@ pub record BoardSays {S : Type 0} (g : Ghosts S) (posted : List Key) (moment : �
   pub behind : IsFit g new → IfOk result (λ board. IsBoardOf (after rules old.found (logged old.log)) posted moment board)
   pub names : IfOk result (λ board. (board.kept ≡ old.kept) × (board.posted ≡ posted))
   pub counted : IfOk result (λ board. board.kept ≡ length old.log)
+  -- it names no attempt of a run that is over
+  pub apart : IsFit g new → (over : List ℕ) → AreOver g old over → IfOk result (λ board. names_over over board.tasks ≡ false)
   pub stayed : HasStayed g old new result
   pub among : IfErr result (IsOfBoard old.halted)
   pub cause : IsFit g new → IfErr result (λ f. f ≡ faults.StoreRefused → IsDown g old.stored new.stored)

@@ -1,3 +1,5 @@
+pub mod Over
+pub mod Shutting
 pub mod Accounts
 pub mod Keeping
 pub mod Looking

@@ -1,6 +1,6 @@
 -- What a stamp names.
 use Rattle.std.specs.Prelude.{◌≡◌, ℕ, List, [], ◌∷◌, length, map, refl}
-use Rattle.std.specs.Coded.{Coded, code_by, coded×, coded_ℕ}
+use Rattle.std.specs.Coded.{Coded, code_by, coded×, coded_list, coded_ℕ}
 use Rattle.sqlite_trees.specs.View.{doubt}
 use Rattle.flow_base.specs.declared.submission.Receipt.{Receipt}
 use Rattle.flow_commit.specs.Keeping.{AreReplies, place_of, count_from}
@@ -26,17 +26,18 @@ only [] = no_account
 only (a ∷ more) = a
 
 -- The place of the batch's last command; for contracts alone what the keeper had kept as the commit left it, and the receipts of the
--- batch, which are the last of these.
+-- batch, which are the last of these; and the runs that the batch has closed.
 pub record Stamped : Type 0 where
   pub number : ℕ
   pub account : Accounted
   pub own : List Receipt
+  pub closed : List ℕ
 
 abbrev pub stamped_code : Coded Stamped
 stamped_code =
-    code_by (ℕ × (Accounted × List Receipt)) (coded× coded_ℕ (coded× account_code log_code)) (λ s. (s.number, (s.account, s.own)))
-    (λ p. record { number = p.0; account = p.1.0; own = p.1.1 }) (λ _. refl)
+    code_by (ℕ × (Accounted × (List Receipt × List ℕ))) (coded× coded_ℕ (coded× account_code (coded× log_code (coded_list coded_ℕ)))) (λ s. (s.number, (s.account, (s.own, s.closed))))
+    (λ p. record { number = p.0; account = p.1.0; own = p.1.1.0; closed = p.1.1.1 }) (λ _. refl)
 
 -- the stamp names what its keeper has kept, and these receipts
 abbrev pub IsStampOf : Accounted → List Receipt → Stamped → Type 0
-IsStampOf a rs stamp = stamp ≡ record { number = a.kept; account = a; own = rs }
+IsStampOf a rs stamp = stamp ≡ record { number = a.kept; account = a; own = rs; closed = stamp.closed }

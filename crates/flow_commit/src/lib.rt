@@ -9,6 +9,7 @@ pub mod keeper;
 pub mod laws;
 pub mod outcome;
 mod receipts;
+mod shutting;
 pub mod stamp;
 mod survey;
 mod transaction;

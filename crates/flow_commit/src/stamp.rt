@@ -3,6 +3,7 @@ ghost use Rattle.std.specs.Prelude.{◌≡◌};
 ghost use Rattle.flow_commit.specs.Stamps.{IsLawful};
 
 use crate::account::Account;
+use flow_base::number::RunId;
 use flow_base::submission::Receipt;
 use std::marker::Model;
 use unseen::Listed;
@@ -14,6 +15,8 @@ pub struct Stamp {
     pub(crate) account: Listed<Account>,
     /// The receipts of the batch, for contracts alone.
     pub(crate) own: Listed<Receipt>,
+    /// The runs that the batch has closed: nothing of them is ever open again.
+    pub(crate) closed: Vec<RunId>,
 }
 
 impl Model for Stamp {
@@ -23,7 +26,7 @@ impl Model for Stamp {
 
     ghost coded = { stamped_code };
 
-    ghost view = { λ s. record { number = s.number; account = only s.account; own = s.own } };
+    ghost view = { λ s. record { number = s.number; account = only s.account; own = s.own; closed = s.closed.items } };
 
     ghost invariant = { λ s. IsLawful (only s.account) };
 }
@@ -36,6 +39,13 @@ impl Stamp {
         self.number
     }
 
+    /// The runs that the batch has closed.
+    pub fn closed(&self) -> &[RunId]
+        ensures { result.now ≡ self.now.closed }
+    {
+        self.closed.as_slice()
+    }
+
     /// Spends the stamp where its receipts are published, and gives its number.
     pub fn spend(self) -> u64
         ensures number { result ≡ self.number }
@@ -45,6 +55,7 @@ impl Stamp {
             number,
             account: _,
             own: _,
+            closed: _closed,
         } = self;
         number
     }
@@ -57,6 +68,7 @@ impl Stamp {
             number: _,
             account: _,
             own: _,
+            closed: _closed,
         } = self;
     }
 }

@@ -7,6 +7,7 @@ use Rattle.flow_base.specs.declared.fault.Fault.{Fault}
 use Rattle.flow_base.specs.declared.submission.Receipt.{Receipt}
 use Rattle.flow_base.specs.declared.submission.Taken.{Taken}
 use Rattle.flow_commit.specs.Accounts.{Accounted}
+use Rattle.flow_commit.specs.Stamps.{Stamped}
 use Rattle.flow_base.specs.declared.task.Task.{Task}
 use Rattle.flow_hub.specs.declared.known.HubFacts.{HubFacts}
 use Rattle.flow_hub.specs.declared.known.BoardSummary.{BoardSummary}
@@ -72,7 +73,7 @@ before_all k = record {
 }
 
 pub same_part : (k : HubFacts) → IsSamePart k k
-same_part k = record { history = refl; refused = refl; last = refl; held = refl; takes = refl; ended = refl; posted = refl; boarded = refl; outlook = refl; skipped = refl }
+same_part k = record { history = refl; refused = refl; last = refl; held = refl; takes = refl; ended = refl; posted = refl; gone = refl; boarded = refl; outlook = refl; skipped = refl }
 
 -- two that agree with a third on the publisher's part agree
 pub part_of : (x now y k : HubFacts) → IsSamePart x now → y ≡ now → IsSamePart k y → IsSamePart x k
@@ -84,6 +85,7 @@ part_of x now y k p e q = record {
   takes = p.takes ∙ (ap (λ (l : HubFacts). l.takes) (sym e) ∙ sym q.takes);
   ended = p.ended ∙ (ap (λ (l : HubFacts). l.ended) (sym e) ∙ sym q.ended);
   posted = p.posted ∙ (ap (λ (l : HubFacts). l.posted) (sym e) ∙ sym q.posted);
+  gone = p.gone ∙ (ap (λ (l : HubFacts). l.gone) (sym e) ∙ sym q.gone);
   boarded = p.boarded ∙ (ap (λ (l : HubFacts). l.boarded) (sym e) ∙ sym q.boarded);
   outlook = p.outlook ∙ (ap (λ (l : HubFacts). l.outlook) (sym e) ∙ sym q.outlook);
   skipped = p.skipped ∙ (ap (λ (l : HubFacts). l.skipped) (sym e) ∙ sym q.skipped);
@@ -117,8 +119,8 @@ takes_on k xs left = record {
   given = prefix_self k.given;
 }
 
-pub publishes_on : (k : HubFacts) (keeper : Accounted) (rs : List Receipt) → IsOver k.last (keeper ∷ []) → IsBefore k (with_published k keeper rs)
-publishes_on k keeper rs o = record {
+pub publishes_on : (k : HubFacts) (stamp : Stamped) (count : ℕ) (rs : List Receipt) → IsOver k.last (stamp.account ∷ []) → IsBefore k (with_published k stamp count rs)
+publishes_on k stamp count rs o = record {
   asked = prefix_self k.asked;
   history = (rs, refl);
   refused = prefix_self k.refused;
@@ -249,19 +251,19 @@ gives_on k t = record {
 ---- What a submitter changes, hub and lock included, isn't the publisher's
 
 pub asks_part : (k : HubFacts) (t : Taken) → IsSamePart (with_ask k t) k
-asks_part k t = record { history = refl; refused = refl; last = refl; held = refl; takes = refl; ended = refl; posted = refl; boarded = refl; outlook = refl; skipped = refl }
+asks_part k t = record { history = refl; refused = refl; last = refl; held = refl; takes = refl; ended = refl; posted = refl; gone = refl; boarded = refl; outlook = refl; skipped = refl }
 
 pub fetches_part : (k : HubFacts) → IsSamePart (with_fetched k) k
-fetches_part k = record { history = refl; refused = refl; last = refl; held = refl; takes = refl; ended = refl; posted = refl; boarded = refl; outlook = refl; skipped = refl }
+fetches_part k = record { history = refl; refused = refl; last = refl; held = refl; takes = refl; ended = refl; posted = refl; gone = refl; boarded = refl; outlook = refl; skipped = refl }
 
 pub enrolls_part : (k : HubFacts) → IsSamePart (with_member k) k
-enrolls_part k = record { history = refl; refused = refl; last = refl; held = refl; takes = refl; ended = refl; posted = refl; boarded = refl; outlook = refl; skipped = refl }
+enrolls_part k = record { history = refl; refused = refl; last = refl; held = refl; takes = refl; ended = refl; posted = refl; gone = refl; boarded = refl; outlook = refl; skipped = refl }
 
 pub closes_part : (k : HubFacts) → IsSamePart (with_closed k) k
-closes_part k = record { history = refl; refused = refl; last = refl; held = refl; takes = refl; ended = refl; posted = refl; boarded = refl; outlook = refl; skipped = refl }
+closes_part k = record { history = refl; refused = refl; last = refl; held = refl; takes = refl; ended = refl; posted = refl; gone = refl; boarded = refl; outlook = refl; skipped = refl }
 
 pub gives_part : (k : HubFacts) (t : Task) → IsSamePart (with_given k t) k
-gives_part k t = record { history = refl; refused = refl; last = refl; held = refl; takes = refl; ended = refl; posted = refl; boarded = refl; outlook = refl; skipped = refl }
+gives_part k t = record { history = refl; refused = refl; last = refl; held = refl; takes = refl; ended = refl; posted = refl; gone = refl; boarded = refl; outlook = refl; skipped = refl }
 
 -- the same of equal ones
 pub grows_by : (k l m n : HubFacts) → k ≡ l → n ≡ m → IsBefore l m → IsBefore k n

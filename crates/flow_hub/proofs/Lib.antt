@@ -5,5 +5,6 @@ pub mod Moves
 pub mod Lists
 pub mod Searching
 pub mod Sound
+pub mod Keys
 pub mod Serving
 pub mod Waking

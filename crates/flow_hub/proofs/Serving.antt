@@ -11,7 +11,8 @@ use Rattle.flow_base.specs.Keys.{Key}
 use Rattle.flow_commit.specs.Boards.{Boarded}
 use Rattle.flow_hub.specs.declared.known.HubFacts.{HubFacts}
 use Rattle.flow_hub.specs.Knowing.{IsOver, IsSamePart}
-use Rattle.flow_queues.specs.Posting.{HasKeys}
+use Rattle.flow_queues.specs.Posting.{HasOthers, HasStill}
+use Rattle.flow_queues.proofs.Still.{others_still}
 use Rattle.flow_hub.specs.Publishing.{Together, InHand, HasTaken, Answers, HasPublished, HasRefused, IsFresh, IsSameHistory}
 
 -- what is told later of one keeper is over what the earlier one was over
@@ -61,11 +62,11 @@ refused_together old new was k xs code h log base r = record {
 ---- Boards
 
 -- a board that was made of what is kept and of what was posted
-pub is_fresh : (keeper : Accounted) (k : HubFacts) (board : Boarded) (keys : BTreeSet Key) → Together keeper k → HasKeys keys k.posted
+pub is_fresh : (keeper : Accounted) (k : HubFacts) (board : Boarded) (keys : BTreeSet Key) → Together keeper k → HasStill k.gone keys k.posted
     → board.kept ≡ length keeper.log → board.posted ≡ keys.keys → IsFresh k board
 is_fresh keeper k board keys t h kept posted = record {
   kept = kept ∙ ap length t.log;
-  posted = subst (λ (ks : List Key). HasKeys (record { keys = ks }) k.posted) (sym posted) h;
+  posted = subst (λ (ks : List Key). HasOthers k.gone (record { keys = ks }) k.posted) (sym posted) (others_still k.gone keys k.posted h);
 }
 
 -- and behind it they stand together as before
@@ -77,4 +78,4 @@ boarded_together old new was k t log base same = record {
 }
 
 pub same_history : (was k : HubFacts) → IsSamePart was k → IsSameHistory was k
-same_history was k same = record { history = sym same.history; refused = sym same.refused; last = sym same.last; held = sym same.held; takes = sym same.takes; ended = sym same.ended }
+same_history was k same = record { history = sym same.history; refused = sym same.refused; last = sym same.last; held = sym same.held; takes = sym same.takes; ended = sym same.ended; gone = sym same.gone }

@@ -129,6 +129,7 @@ has_taken h was xs rest is s same =
       last = sym same.last;
       ended = sym same.ended;
       posted = sym same.posted;
+      gone = sym same.gone;
       boarded = sym same.boarded;
       outlook = sym same.outlook;
       skipped = sym same.skipped;
@@ -202,37 +203,37 @@ next_tickets h stamp rs s a =
     tickets_same rs ∙ (ap tickets_in a.asked ∙ (split.0 ∙ ap (count_from first) count))
 
 -- the history that is published, by the stamp's keeper
-pub published_history : (h : Hall) (stamp : Stamped) (rs : List Receipt) → IsSound h → Answers h.known stamp rs → IsLawful stamp.account → IsHistory (with_published h.known stamp.account rs)
-published_history h stamp rs s a lawful =
+pub published_history : (h : Hall) (stamp : Stamped) (count : ℕ) (rs : List Receipt) → IsSound h → Answers h.known stamp rs → IsLawful stamp.account → IsHistory (with_published h.known stamp count rs)
+published_history h stamp count rs s a lawful =
     let history = h.known.history in
     let first = answered_in h.known in
-    let now = answered_in (with_published h.known stamp.account rs) in
+    let now = answered_in (with_published h.known stamp count rs) in
     record {
       kept = (sym a.log, lawful.legal);
       rising = rises_on ticket_of history rs first (length rs) now s.legal.rising (next_tickets h stamp rs s a) (omega (arith, length-append history rs));
     }
 
-pub publishes : (h : Hall) (stamp : Stamped) (rs : List Receipt) → IsSound h → Answers h.known stamp rs → IsLawful stamp.account → IsSound (published h stamp.account rs)
-publishes h stamp rs s a lawful =
+pub publishes : (h : Hall) (stamp : Stamped) (count : ℕ) (rs : List Receipt) → IsSound h → Answers h.known stamp rs → IsLawful stamp.account → IsSound (published h stamp count rs)
+publishes h stamp count rs s a lawful =
     let held = h.known.held in
     let history = h.known.history in
     let asked = h.known.asked in
     let first = answered_in h.known in
-    let now = answered_in (with_published h.known stamp.account rs) in
+    let now = answered_in (with_published h.known stamp count rs) in
     let split = count_split ticket_in held h.waiting first (length h.waiting) s.order in
-    let count : length held ≡ length rs = sym (ap length a.asked) ∙ length-mapped taken_of rs in
+    let many : length held ≡ length rs = sym (ap length a.asked) ∙ length-mapped taken_of rs in
     let longer : length (history ++ rs) ≡ length history + length rs = length-append history rs in
     let more : length (h.answered ++ rs) ≡ length h.answered + length rs = length-append h.answered rs in
     let kept : stamp.account.kept ≡ length history + length rs = lawful.counts ∙ (ap length a.log ∙ longer) in
     let places : map place_of (history ++ rs) ≡ count_from 1 (length history + length rs) = ap (map place_of) (sym a.log) ∙ (lawful.places ∙ ap (count_from 1) kept) in
     let next : map place_of rs ≡ count_from (length history + 1) (length rs) = (count_split place_of history rs 1 (length rs) places).1 ∙ from_same (1 + length history) (length history + 1) (length rs) (omega arith) in
     record {
-      legal = published_history h stamp rs s a lawful;
-      order = split.1 ∙ (from_same (first + length held) now (length h.waiting) (omega (arith, count, longer)) ∙ long_same now (length h.waiting) (0 + length h.waiting) (omega arith));
-      counts = omega (arith, s.counts, count, longer);
+      legal = published_history h stamp count rs s a lawful;
+      order = split.1 ∙ (from_same (first + length held) now (length h.waiting) (omega (arith, many, longer)) ∙ long_same now (length h.waiting) (0 + length h.waiting) (omega arith));
+      counts = omega (arith, s.counts, many, longer);
       shared = s.shared;
       asked = s.asked;
-      fetched = omega (arith, s.fetched, count, more);
+      fetched = omega (arith, s.fetched, many, more);
       taken = All-nil (IsAsked asked);
       pending = s.pending;
       own = All-append (IsOwn asked) h.answered rs s.own (owned asked rs (subst (All (IsAsked asked)) (sym a.asked) s.taken));
@@ -248,8 +249,8 @@ publishes h stamp rs s a lawful =
     }
 
 -- what the publisher's seat has of what was published
-pub has_published : (l was : HubFacts) (stamp : Stamped) (rs : List Receipt) → IsSamePart was l → Answers was stamp rs → HasPublished was (with_published l stamp.account rs) stamp rs
-has_published l was stamp rs same a = record {
+pub has_published : (l was : HubFacts) (stamp : Stamped) (count : ℕ) (rs : List Receipt) → IsSamePart was l → Answers was stamp rs → HasPublished was (with_published l stamp count rs) stamp rs
+has_published l was stamp count rs same a = record {
   history = ap (λ h. h ++ rs) (sym same.history);
   log = ap (λ h. h ++ rs) (sym same.history) ∙ sym a.log;
   last = refl;
@@ -258,6 +259,8 @@ has_published l was stamp rs same a = record {
   refused = sym same.refused;
   ended = sym same.ended;
   posted = sym same.posted;
+  count = count;
+  gone = ap (λ runs. runs ++ take count stamp.closed) (sym same.gone);
   boarded = refl;
   outlook = refl;
   skipped = sym same.skipped;
@@ -370,6 +373,7 @@ has_refused l was xs code same = record {
   last = sym same.last;
   ended = sym same.ended;
   posted = sym same.posted;
+  gone = sym same.gone;
   boarded = refl;
   outlook = refl;
   skipped = sym same.skipped;
@@ -521,7 +525,7 @@ gives h t rest is s = record {
 pub has_posted : (l was : HubFacts) (board : Boarded) → IsSamePart was l
     → HasPosted was (with_posted l (new_ones l.posted board.tasks) (record { due = board.due; open_runs = board.open_runs })) board
 has_posted l was board same = record {
-  rest = record { history = sym same.history; refused = sym same.refused; last = sym same.last; held = sym same.held; takes = sym same.takes; ended = sym same.ended };
+  rest = record { history = sym same.history; refused = sym same.refused; last = sym same.last; held = sym same.held; takes = sym same.takes; ended = sym same.ended; gone = sym same.gone };
   posted = ap (λ ts. ts ++ new_ones ts board.tasks) (sym same.posted);
   boarded = refl;
   outlook = refl;
@@ -530,7 +534,7 @@ has_posted l was board same = record {
 
 pub has_skipped : (l was : HubFacts) (f : Fault) → IsSamePart was l → HasSkipped was (with_skipped l f) f
 has_skipped l was f same = record {
-  rest = record { history = sym same.history; refused = sym same.refused; last = sym same.last; held = sym same.held; takes = sym same.takes; ended = sym same.ended };
+  rest = record { history = sym same.history; refused = sym same.refused; last = sym same.last; held = sym same.held; takes = sym same.takes; ended = sym same.ended; gone = sym same.gone };
   posted = sym same.posted;
   boarded = refl;
   outlook = sym same.outlook;
@@ -546,6 +550,7 @@ has_ended l was same = record {
   held = sym same.held;
   takes = sym same.takes;
   posted = sym same.posted;
+  gone = sym same.gone;
   boarded = sym same.boarded;
   outlook = sym same.outlook;
   skipped = sym same.skipped;
@@ -585,6 +590,7 @@ taken_since j k l xs same t = record {
   last = t.last ∙ sym same.last;
   ended = t.ended ∙ sym same.ended;
   posted = t.posted ∙ sym same.posted;
+  gone = t.gone ∙ sym same.gone;
   boarded = t.boarded ∙ sym same.boarded;
   outlook = t.outlook ∙ sym same.outlook;
   skipped = t.skipped ∙ sym same.skipped;
@@ -610,6 +616,7 @@ none_taken j k l xs none same t = record {
   held = same.held ∙ sym (t.held ∙ (ap (λ x. k.held ++ x) none ∙ append-nil k.held));
   ended = same.ended ∙ sym t.ended;
   posted = same.posted ∙ sym t.posted;
+  gone = same.gone ∙ sym t.gone;
   boarded = same.boarded ∙ sym t.boarded;
   outlook = same.outlook ∙ sym t.outlook;
   takes = same.takes ∙ sym (t.takes ∙ (ap (λ x. k.takes ++ taken_at_once x t.left) none ∙ append-nil k.takes));

@@ -7,7 +7,8 @@ use Rattle.flow_base.specs.declared.command.Command.{Command}
 use Rattle.flow_base.specs.declared.submission.Receipt.{Receipt}
 use Rattle.flow_base.specs.declared.submission.Taken.{Taken}
 use Rattle.flow_base.specs.declared.task.Task.{Task}
-use Rattle.flow_commit.specs.Accounts.{Accounted, log_code}
+use Rattle.flow_commit.specs.Accounts.{log_code}
+use Rattle.flow_commit.specs.Stamps.{Stamped}
 use Rattle.flow_commit.specs.Keeping.{batch_code, count_from}
 use Rattle.flow_hub.specs.declared.fed.Until.{Until}
 use Rattle.flow_hub.specs.declared.fed.Until.TheVariants as until
@@ -73,9 +74,9 @@ submitted h c = record h { known = with_ask h.known (new_ask h c); waiting = h.w
 abbrev pub took : Hall → List Taken → List Taken → Hall
 took h xs rest = record h { known = with_taken h.known xs (length rest); waiting = rest }
 
--- the receipts answer all that was taken
-abbrev pub published : Hall → Accounted → List Receipt → Hall
-published h keeper rs = record h { known = with_published h.known keeper rs; answered = h.answered ++ rs }
+-- the receipts answer all that was taken, and so many of the runs that the stamp names as closed are gone
+abbrev pub published : Hall → Stamped → ℕ → List Receipt → Hall
+published h stamp count rs = record h { known = with_published h.known stamp count rs; answered = h.answered ++ rs }
 
 -- all that was taken is answered by a code
 abbrev pub refused_all : Hall → Code → Hall

@@ -1,5 +1,5 @@
 -- What threads know of a hub, how it changes, and how it grows.
-use Rattle.std.specs.Prelude.{ℕ, ◌≡◌, ◌≤◌, ◌+◌, Bool, true, false, Option, Some, None, List, [], ◌∷◌, ◌++◌, length, map, refl}
+use Rattle.std.specs.Prelude.{ℕ, ◌≡◌, ◌≤◌, ◌+◌, Bool, true, false, Option, Some, None, List, [], ◌∷◌, ◌++◌, length, map, refl, take}
 use Rattle.std.specs.Coded.{Coded, code_by, coded×, coded_ℕ, coded_bool, coded_list, coded_option}
 use mathlib.Core.List.{IsPrefix}
 use Rattle.flow_base.specs.declared.code.Code.{Code}
@@ -11,7 +11,7 @@ use Rattle.flow_base.specs.declared.task.Task.{Task}
 use Rattle.flow_base.specs.contracts.task.Task as task_row
 use Rattle.flow_commit.specs.Keeping.{batch_code}
 use Rattle.flow_commit.specs.Accounts.{Accounted, account_code, log_code}
-use Rattle.flow_commit.specs.Stamps.{IsLegal}
+use Rattle.flow_commit.specs.Stamps.{IsLegal, Stamped}
 use Rattle.flow_hub.specs.declared.known.HubFacts.{HubFacts}
 use Rattle.flow_hub.specs.declared.known.BoardSummary.{BoardSummary}
 use Rattle.flow_hub.specs.declared.known.TakeFacts.{TakeFacts}
@@ -30,10 +30,10 @@ task_list_code = coded_list task_row.the_row.coded
 
 -- the part of the tasks
 abbrev Tasks : Type 0
-Tasks = List Task × (List Task × (Bool × (Option BoardSummary × List Fault)))
+Tasks = List Task × (List ℕ × (List Task × (Bool × (Option BoardSummary × List Fault))))
 
 abbrev tasks_code : Coded Tasks
-tasks_code = coded× task_list_code (coded× task_list_code (coded× coded_bool (coded× (coded_option outlook_row.the_row.coded) (coded_list fault_row.the_row.coded))))
+tasks_code = coded× task_list_code (coded× (coded_list coded_ℕ) (coded× task_list_code (coded× coded_bool (coded× (coded_option outlook_row.the_row.coded) (coded_list fault_row.the_row.coded)))))
 
 -- the part of what is taken
 abbrev Takes : Type 0
@@ -50,12 +50,12 @@ abbrev pub known_code : Coded HubFacts
 known_code =
     code_by (List Taken × (List Receipt × (List Refused × (List Accounted × (Takes × (ℕ × (ℕ × (Closing × Tasks))))))))
     (coded× batch_code (coded× log_code (coded× refusals_code (coded× (coded_list account_code) (coded× takes_code (coded× coded_ℕ (coded× coded_ℕ (coded× (coded× coded_bool coded_bool) tasks_code))))))))
-    (λ k. (k.asked, (k.history, (k.refused, (k.last, ((k.held, k.takes), (k.fetched, (k.members, ((k.closed, k.ended), (k.posted, (k.given, (k.boarded, (k.outlook, k.skipped)))))))))))))
-    (λ p. record { asked = p.0; history = p.1.0; refused = p.1.1.0; last = p.1.1.1.0; held = p.1.1.1.1.0.0; takes = p.1.1.1.1.0.1; fetched = p.1.1.1.1.1.0; members = p.1.1.1.1.1.1.0; closed = p.1.1.1.1.1.1.1.0.0; ended = p.1.1.1.1.1.1.1.0.1; posted = p.1.1.1.1.1.1.1.1.0; given = p.1.1.1.1.1.1.1.1.1.0; boarded = p.1.1.1.1.1.1.1.1.1.1.0; outlook = p.1.1.1.1.1.1.1.1.1.1.1.0; skipped = p.1.1.1.1.1.1.1.1.1.1.1.1 })
+    (λ k. (k.asked, (k.history, (k.refused, (k.last, ((k.held, k.takes), (k.fetched, (k.members, ((k.closed, k.ended), (k.posted, (k.gone, (k.given, (k.boarded, (k.outlook, k.skipped))))))))))))))
+    (λ p. record { asked = p.0; history = p.1.0; refused = p.1.1.0; last = p.1.1.1.0; held = p.1.1.1.1.0.0; takes = p.1.1.1.1.0.1; fetched = p.1.1.1.1.1.0; members = p.1.1.1.1.1.1.0; closed = p.1.1.1.1.1.1.1.0.0; ended = p.1.1.1.1.1.1.1.0.1; posted = p.1.1.1.1.1.1.1.1.0; gone = p.1.1.1.1.1.1.1.1.1.0; given = p.1.1.1.1.1.1.1.1.1.1.0; boarded = p.1.1.1.1.1.1.1.1.1.1.1.0; outlook = p.1.1.1.1.1.1.1.1.1.1.1.1.0; skipped = p.1.1.1.1.1.1.1.1.1.1.1.1.1 })
     (λ _. refl)
 
 abbrev pub nothing : HubFacts
-nothing = record { asked = []; history = []; refused = []; last = []; held = []; takes = []; fetched = 0; members = 0; closed = false; ended = false; posted = []; given = []; boarded = false; outlook = None; skipped = [] }
+nothing = record { asked = []; history = []; refused = []; last = []; held = []; takes = []; fetched = 0; members = 0; closed = false; ended = false; posted = []; gone = []; given = []; boarded = false; outlook = None; skipped = [] }
 
 -- how many submissions are answered, by a receipt or by a code
 abbrev pub answered_in : HubFacts → ℕ
@@ -74,8 +74,8 @@ taken_at_once (x ∷ xs) left = record { taken = length (x ∷ xs); left = left 
 abbrev pub with_taken : HubFacts → List Taken → ℕ → HubFacts
 with_taken k xs left = record k { held = k.held ++ xs; takes = k.takes ++ taken_at_once xs left }
 
-abbrev pub with_published : HubFacts → Accounted → List Receipt → HubFacts
-with_published k keeper rs = record k { history = k.history ++ rs; last = keeper ∷ []; held = []; boarded = false; outlook = None }
+abbrev pub with_published : HubFacts → Stamped → ℕ → List Receipt → HubFacts
+with_published k stamp count rs = record k { history = k.history ++ rs; last = stamp.account ∷ []; gone = k.gone ++ take count stamp.closed; held = []; boarded = false; outlook = None }
 
 abbrev pub with_refused : HubFacts → List Taken → Code → HubFacts
 with_refused k xs code = record k { refused = k.refused ++ map (refused_by code) xs; held = []; boarded = false; outlook = None }
@@ -124,7 +124,7 @@ pub record IsBefore (k l : HubFacts) : Type 0 where
   pub given : IsPrefix k.given l.given
 
 -- What the publisher alone changes is the same: the history, the last stamp, what was answered by a code, what is taken and was, what it
--- has posted and skipped, and whether it has closed the hub.
+-- has posted and skipped, of which runs it has let go, and whether it has closed the hub.
 pub record IsSamePart (k l : HubFacts) : Type 0 where
   pub history : k.history ≡ l.history
   pub refused : k.refused ≡ l.refused
@@ -133,6 +133,7 @@ pub record IsSamePart (k l : HubFacts) : Type 0 where
   pub takes : k.takes ≡ l.takes
   pub ended : k.ended ≡ l.ended
   pub posted : k.posted ≡ l.posted
+  pub gone : k.gone ≡ l.gone
   pub boarded : k.boarded ≡ l.boarded
   pub outlook : k.outlook ≡ l.outlook
   pub skipped : k.skipped ≡ l.skipped

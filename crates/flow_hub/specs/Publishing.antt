@@ -1,5 +1,7 @@
 -- What the publisher does.
-use Rattle.std.specs.Prelude.{ℕ, ◌≡◌, ◌+◌, ◌<◌, true, false, List, [], ◌∷◌, ◌++◌, length, map, All, Some, None}
+use Rattle.std.specs.Prelude.{ℕ, ◌≡◌, ◌+◌, ◌<◌, true, false, List, [], ◌∷◌, ◌++◌, length, map, take, All, Some, None}
+use Rattle.std.specs.BTreeSet.{BTreeSet}
+use Rattle.flow_base.specs.Keys.{Key}
 use Rattle.flow_base.specs.declared.code.Code.{Code}
 use Rattle.flow_base.specs.declared.fault.Fault.{Fault}
 use Rattle.flow_base.specs.declared.submission.Receipt.{Receipt}
@@ -10,7 +12,7 @@ use Rattle.flow_commit.specs.Stamps.{Stamped}
 use Rattle.flow_commit.specs.Boards.{Boarded}
 use Rattle.flow_hub.specs.declared.known.HubFacts.{HubFacts}
 use Rattle.flow_hub.specs.declared.known.TakeFacts.{TakeFacts}
-use Rattle.flow_queues.specs.Posting.{HasKeys, new_ones}
+use Rattle.flow_queues.specs.Posting.{HasOthers, HasStill, apart_of, new_ones}
 use Rattle.flow_hub.specs.Asks.{IsAsked, tickets_in, takens_of}
 use Rattle.flow_queues.specs.Refusing.{refused_by}
 use Rattle.flow_hub.specs.Knowing.{IsOver, answered_in, taken_at_once}
@@ -35,6 +37,7 @@ pub record HasTaken (old new : HubFacts) (xs : List Taken) : Type 0 where
   pub last : new.last ≡ old.last
   pub ended : new.ended ≡ old.ended
   pub posted : new.posted ≡ old.posted
+  pub gone : new.gone ≡ old.gone
   pub boarded : new.boarded ≡ old.boarded
   pub outlook : new.outlook ≡ old.outlook
   pub skipped : new.skipped ≡ old.skipped
@@ -70,7 +73,8 @@ pub record Answers (k : HubFacts) (stamp : Stamped) (rs : List Receipt) : Type 0
   pub log : stamp.account.log ≡ k.history ++ rs
   pub over : IsOver k.last (stamp.account ∷ [])
 
--- The history has these receipts more, and is all that the stamp's keeper has kept. What the last board says holds no more.
+-- The history has these receipts more, and is all that the stamp's keeper has kept. Of the runs that the stamp names as closed the
+-- keys are let go of, but for the last of them if memory was refused. What the last board says holds no more.
 pub record HasPublished (old new : HubFacts) (stamp : Stamped) (rs : List Receipt) : Type 0 where
   pub history : new.history ≡ old.history ++ rs
   pub log : new.history ≡ stamp.account.log
@@ -80,6 +84,8 @@ pub record HasPublished (old new : HubFacts) (stamp : Stamped) (rs : List Receip
   pub refused : new.refused ≡ old.refused
   pub ended : new.ended ≡ old.ended
   pub posted : new.posted ≡ old.posted
+  pub count : ℕ
+  pub gone : new.gone ≡ old.gone ++ take count stamp.closed
   pub boarded : new.boarded ≡ false
   pub outlook : new.outlook ≡ None
   pub skipped : new.skipped ≡ old.skipped
@@ -93,14 +99,23 @@ pub record HasRefused (old new : HubFacts) (xs : List Taken) (code : Code) : Typ
   pub last : new.last ≡ old.last
   pub ended : new.ended ≡ old.ended
   pub posted : new.posted ≡ old.posted
+  pub gone : new.gone ≡ old.gone
   pub boarded : new.boarded ≡ false
   pub outlook : new.outlook ≡ None
   pub skipped : new.skipped ≡ old.skipped
 
--- The board was made behind all that is published, when these tasks were posted.
+-- The board was made after all that is published, when these tasks were posted, whatever is said of runs that are gone.
 pub record IsFresh (k : HubFacts) (board : Boarded) : Type 0 where
   pub kept : board.kept ≡ length k.history
-  pub posted : HasKeys (record { keys = board.posted }) k.posted
+  pub posted : HasOthers k.gone (record { keys = board.posted }) k.posted
+
+-- The board without what is of runs that are gone.
+abbrev pub left_on : HubFacts → Boarded → Boarded
+left_on k board = record board { tasks = apart_of k.gone board.tasks }
+
+-- The set has the keys of what was posted, but for what is of runs that are gone, and these are those runs.
+abbrev pub HasRest : BTreeSet Key → List ℕ → HubFacts → Type 0
+HasRest keys gone k = HasStill k.gone keys k.posted × (gone ≡ k.gone)
 
 -- All else that the publisher alone changes is as it was.
 pub record IsSameHistory (old new : HubFacts) : Type 0 where
@@ -110,6 +125,7 @@ pub record IsSameHistory (old new : HubFacts) : Type 0 where
   pub held : new.held ≡ old.held
   pub takes : new.takes ≡ old.takes
   pub ended : new.ended ≡ old.ended
+  pub gone : new.gone ≡ old.gone
 
 -- Those of the board's tasks are posted that weren't posted before, each once and in their order, and it says what is open.
 pub record HasPosted (old new : HubFacts) (board : Boarded) : Type 0 where
@@ -136,6 +152,7 @@ pub record HasEnded (old new : HubFacts) : Type 0 where
   pub held : new.held ≡ old.held
   pub takes : new.takes ≡ old.takes
   pub posted : new.posted ≡ old.posted
+  pub gone : new.gone ≡ old.gone
   pub boarded : new.boarded ≡ old.boarded
   pub outlook : new.outlook ≡ old.outlook
   pub skipped : new.skipped ≡ old.skipped

@@ -5,7 +5,7 @@ ghost use Rattle.flow_queues.specs.Posting.{chosen};
 
 use flow_base::code::Code;
 use flow_base::fault::Fault;
-use flow_base::number::Moment;
+use flow_base::number::{Moment, RunId};
 use flow_base::submission::{Receipt, Taken};
 use flow_base::task::Task;
 use flow_commit::account::Account;
@@ -56,6 +56,8 @@ pub struct HubFacts {
     pub ended: bool,
     /// All tasks that were posted, in their order.
     pub posted: Listed<Task>,
+    /// The runs whose keys the publisher has let go of, since they are over.
+    pub gone: Listed<RunId>,
     /// Those of them that were given to whoever hands them to workers, in their order.
     pub given: Listed<Task>,
     /// Whether a board was posted or skipped since the hub was made and since what was taken last was answered.
@@ -140,6 +142,15 @@ impl Makes<Stamp, Account> for Named {
     ghost list = { λ s. s.account ∷ [] };
 }
 
+/// Runs, and after them the first so many of those that a stamp names as closed.
+struct Closed;
+
+impl Makes<(Listed<RunId>, &Stamp, usize), RunId> for Closed {
+    ghost use Rattle.std.specs.Prelude.{◌++◌, take};
+
+    ghost list = { λ p. p.0 ++ take p.2 p.1.now.closed };
+}
+
 impl HubFacts {
     pub(crate) fn new() -> HubFacts
         ensures { result ≡ nothing }
@@ -156,6 +167,7 @@ impl HubFacts {
             closed: false,
             ended: false,
             posted: Listed::of::<(), Empty>(&()),
+            gone: Listed::of::<(), Empty>(&()),
             given: Listed::of::<(), Empty>(&()),
             boarded: false,
             outlook: None,
@@ -181,15 +193,17 @@ impl HubFacts {
         );
     }
 
-    /// What was taken is answered by the receipts of a stamp.
-    pub(crate) fn publish(&mut self, receipts: &Vec<Receipt>, stamp: &Stamp)
-        ensures { self.new ≡ with_published self.old stamp.now.account receipts.now.items }
+    /// What was taken is answered by the receipts of a stamp, and so many of the runs that it names as closed are gone.
+    pub(crate) fn publish(&mut self, receipts: &Vec<Receipt>, stamp: &Stamp, count: usize)
+        ensures { self.new ≡ with_published self.old stamp.now count receipts.now.items }
     {
         self.history = Listed::of::<(Listed<Receipt>, &Vec<Receipt>), Behind>(&(
             self.history.again(),
             receipts,
         ));
         self.last = Listed::of::<Stamp, Named>(stamp);
+        let closed = (self.gone.again(), stamp, count);
+        self.gone = Listed::of::<(Listed<RunId>, &Stamp, usize), Closed>(&closed);
         self.held = Listed::of::<(), Empty>(&());
         self.boarded = false;
         self.outlook = None;

@@ -1,9 +1,9 @@
 //! The calls of the thread that answers.
-ghost use Rattle.std.specs.Prelude.{◌≡◌, ◌<◌, ◌≤◌, true, false, [], length, IfErr, OnOk};
+ghost use Rattle.std.specs.Prelude.{◌≡◌, ◌<◌, ◌≤◌, ◌++◌, true, false, [], length, IfErr, OnOk};
 ghost use Rattle.std.specs.Vec.{vec_capacity};
 ghost use Rattle.flow_hub.specs.Knowing.{IsBefore, IsHistory, IsSamePart};
-ghost use Rattle.flow_queues.specs.Posting.{HasKeys, IsOnce};
-ghost use Rattle.flow_hub.specs.Publishing.{Answers, HasTaken, HasPublished, HasRefused, HasPosted, HasSkipped, HasEnded, IsFresh, IsAllTaken, IsDone, TakesAll};
+ghost use Rattle.flow_queues.specs.Posting.{HasStill, IsOnce, names_of};
+ghost use Rattle.flow_hub.specs.Publishing.{Answers, HasTaken, HasPublished, HasRefused, HasPosted, HasSkipped, HasEnded, IsFresh, IsAllTaken, IsDone, TakesAll, left_on};
 ghost use Rattle.flow_hub.specs.Seating.{IsPublishers};
 
 use crate::feed::Feed;
@@ -16,7 +16,8 @@ use flow_base::submission::{Receipt, Taken};
 use flow_base::task::Posted;
 use flow_commit::board::Board;
 use flow_commit::stamp::Stamp;
-use flow_queues::posting::Keys;
+use flow_queues::over::Over;
+use flow_queues::posting::{Keys, let_go};
 use std::alloc::{AllocError, Global};
 use std::collections::BTreeSet;
 use std::marker::Model;
@@ -29,14 +30,16 @@ pub struct Publisher<B: Room> {
     alloc: Global,
     shared: Arc<Shared<B>>,
     seat: Pass<B>,
-    /// The keys of all that it has posted.
+    /// The keys of what it has posted, but for those of runs that are gone.
     keys: Keys,
+    /// The runs that are gone: of these it posts nothing any more.
+    gone: Over,
 }
 
 impl<B: Room> Model for Publisher<B> {
     ghost use Rattle.flow_hub.specs.declared.known.HubFacts.{HubFacts};
     ghost use Rattle.flow_hub.specs.Knowing.{known_code};
-    ghost use Rattle.flow_queues.specs.Posting.{HasKeys};
+    ghost use Rattle.flow_hub.specs.Publishing.{HasRest};
     ghost use Rattle.flow_hub.specs.Seating.{IsPublishers};
 
     ghost Value = { HubFacts };
@@ -45,7 +48,7 @@ impl<B: Room> Model for Publisher<B> {
 
     ghost view = { λ p. p.seat.was };
 
-    ghost invariant = { λ p. IsPublishers p.seat × HasKeys p.keys p.seat.was.posted };
+    ghost invariant = { λ p. IsPublishers p.seat × HasRest p.keys p.gone p.seat.was };
 }
 
 /// Waits until something is there to be taken, or nothing will come.
@@ -87,6 +90,7 @@ impl<B: Room> Publisher<B> {
     pub(crate) fn over(alloc: Global, shared: Arc<Shared<B>>, seat: Pass<B>) -> Publisher<B>
         requires seat { IsPublishers seat }
         requires none { seat.was.posted ≡ [] }
+        requires gone { seat.was.gone ≡ [] }
         ensures { result ≡ seat.was }
     {
         Publisher {
@@ -94,6 +98,7 @@ impl<B: Room> Publisher<B> {
             shared,
             seat,
             keys: BTreeSet::new(alloc),
+            gone: Over::new(alloc),
         }
     }
 
@@ -119,18 +124,32 @@ impl<B: Room> Publisher<B> {
         some
     }
 
-    /// Answers all that was taken, by the receipts of a stamp.
-    pub fn publish<R: Wait>(&mut self, rt: &R, receipts: Vec<Receipt>, stamp: Stamp)
+    /// Answers all that was taken, by the receipts of a stamp. The keys of the runs that the stamp names as closed are let go of, and of
+    /// these runs nothing is posted any more.
+    ///
+    /// # Failure
+    /// E01: all is answered, and the keys of some of these runs stay where they are.
+    pub fn publish<R: Wait>(
+        &mut self,
+        rt: &R,
+        receipts: Vec<Receipt>,
+        stamp: Stamp,
+    ) -> Result<(), AllocError>
         requires answers { Answers self.old stamp receipts.items }
         ensures published { HasPublished self.old self.new stamp receipts.items }
+        ensures gone { OnOk result (self.new.gone ≡ self.old.gone ++ stamp.closed) }
         ensures legal { IsHistory self.new }
         ensures grows { IsBefore self.old self.new }
     {
+        let (count, let_go_of) = let_go(&mut self.keys, &mut self.gone, stamp.closed());
         let shared = shared_in(&self.shared);
         let me = shared.seats.leave(&mut self.seat);
-        let (me, wake) = shared.lock(rt).publish(&shared.seats, me, receipts, stamp);
+        let (me, wake) = shared
+            .lock(rt)
+            .publish(&shared.seats, me, receipts, stamp, count);
         self.seat = me;
         shared.waits.wake_answered(wake);
+        let_go_of
     }
 
     /// Answers all that was taken by a code.
@@ -146,24 +165,30 @@ impl<B: Room> Publisher<B> {
         shared.waits.wake_answered(wake);
     }
 
-    /// Posts those of a board's tasks that it hasn't posted before, for those who give them out, and what the board says beside. By
-    /// the caller's condition the board was made behind all that is published, when these tasks were posted. So none is posted
-    /// twice, whatever the board names.
+    /// Posts those of a board's tasks that it hasn't posted before and that are of no run that is gone, for those who give them out, and
+    /// what the board says beside. By the caller's condition the board was made after all that is published, when these tasks were
+    /// posted. So none is posted twice, whatever the board names; and if it names nothing of a run that is gone, none is left out.
     ///
     /// # Failure
     /// E01: nothing is posted, and the board comes back.
     pub fn post<R: Wait>(&mut self, rt: &R, board: Board) -> Result<(), (Board, AllocError)>
         requires fresh { IsFresh self.old board }
-        ensures posted { OnOk result (HasPosted self.old self.new board) }
+        ensures posted { OnOk result (names_of self.old.gone board.tasks ≡ false → HasPosted self.old self.new board) }
+        ensures left { OnOk result (HasPosted self.old self.new (left_on self.old board)) }
         ensures refused { IfErr result (λ e. (e.0 ≡ board) × IsSamePart self.old self.new) }
         ensures once { IsOnce self.new.posted }
         ensures grows { IsBefore self.old self.new }
     {
         let shared = shared_in(&self.shared);
         let me = shared.seats.leave(&mut self.seat);
-        let (me, answer) = shared
-            .lock(rt)
-            .post(self.alloc, &shared.seats, me, &mut self.keys, board);
+        let (me, answer) = shared.lock(rt).post(
+            self.alloc,
+            &shared.seats,
+            me,
+            &mut self.keys,
+            &self.gone,
+            board,
+        );
         self.seat = me;
         match answer {
             Ok(wake) => {
@@ -174,9 +199,9 @@ impl<B: Room> Publisher<B> {
         }
     }
 
-    /// The keys of all that it has posted.
+    /// The keys of what it has posted and may come on a board again: of all but what is of runs that are gone, of which it has none.
     pub fn posted(&self) -> &BTreeSet<Posted>
-        ensures { HasKeys result.now self.now.posted }
+        ensures { HasStill self.now.gone result.now self.now.posted }
     {
         &self.keys
     }

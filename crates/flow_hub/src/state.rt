@@ -1,5 +1,5 @@
 //! What lies under the lock.
-ghost use Rattle.std.specs.Prelude.{◌≡◌, ◌≢◌, ◌⊎◌, ◌+◌, ◌<◌, ◌≤◌, ◌^◌, [], ◌∷◌, ◌++◌, ℕ, length, true, false, All, Some, IfOk, IfErr, IfSome, IfNone, MatchOption, OnOk, OnErr, slice_get, remove};
+ghost use Rattle.std.specs.Prelude.{◌≡◌, ◌≢◌, ◌⊎◌, ◌+◌, ◌<◌, ◌≤◌, ◌^◌, [], ◌∷◌, ◌++◌, ℕ, length, true, false, All, Some, IfOk, IfErr, IfSome, IfNone, MatchOption, OnOk, OnErr, slice_get, remove, take};
 ghost use Rattle.std.specs.Vec.{vec_capacity};
 ghost use Rattle.flow_hub.specs.Asks.{Stands, IsOwn, IsGone, IsTold};
 ghost use Rattle.flow_hub.specs.Knowing.{IsBefore, IsHistory, IsSamePart, answered_in, nothing};
@@ -295,19 +295,22 @@ impl<B: Room> State<B> {
         seats.tell(&mut self.keeper, me, self.places, self.places, &self.known)
     }
 
-    /// Answers all that was taken, and all who wait for that are to be woken. What the publisher must show it shows of its own seat.
+    /// Answers all that was taken, and all who wait for that are to be woken; so many of the runs that the stamp names as closed are gone.
+    /// What the publisher must show it shows of its own seat.
     pub(crate) fn publish(
         &mut self,
         seats: &HubTable<B>,
         me: Pass<B>,
         receipts: Vec<Receipt>,
         stamp: Stamp,
+        count: usize,
     ) -> (Pass<B>, WakeAnswered)
         requires seat { IsPublishers me }
         requires answers { Answers me.was stamp receipts.items }
-        ensures published { self.new ≡ published self.old stamp.account receipts.items }
+        ensures published { self.new ≡ published self.old stamp count receipts.items }
         ensures seat { result.0 ≡ seeing true false 0 self.new.known }
         ensures seen { HasPublished me.was result.0.was stamp receipts.items }
+        ensures gone { result.0.was.gone ≡ me.was.gone ++ take count stamp.closed }
         ensures grows { IsBefore me.was result.0.was }
         ensures legal { IsHistory result.0.was }
         ensures wakes { All (λ r. Wakes result.1.told r.ticket) receipts.items }
@@ -317,7 +320,7 @@ impl<B: Room> State<B> {
         // That the stamp is over what the last one was over the publisher has shown of what its seat knows.
         let seen = seats.tell(&mut self.keeper, me, old, old, &self.known);
         self.places += receipts.len() as u64;
-        self.known.publish(&receipts, &stamp);
+        self.known.publish(&receipts, &stamp, count);
         stamp.spend();
         let me = seats.tell(&mut self.keeper, seen, old, self.places, &self.known);
         self.held = 0;

@@ -19,7 +19,7 @@ pub use Rattle.flow_maps.specs.Agenda.{events_behind, is_open_run, tasks_at, tas
 pub use Rattle.flow_maps.specs.Calendars.{HasSlots, IsNext, Slot, date_of_task, date_of_timer, due_of, has_slot, is_slot, part_within, slot, slot_cmp}
 pub use Rattle.flow_maps.specs.Gathering.{listed_with, outlook_from}
 pub use Rattle.flow_maps.specs.Keys.{IsFound, IsIndex, is_key, key_if, name_of, open_key, request_key}
-pub use Rattle.flow_maps.specs.KnownTexts.{IsText, KnowsTexts}
+pub use Rattle.flow_maps.specs.KnownTexts.{IsText, IsTextCount, KnowsBodies, KnowsTexts}
 pub use Rattle.flow_maps.specs.Names.{at_name, both, is_name}
 pub use Rattle.flow_maps.specs.OfRuns.{is_run, replaced}
 pub use Rattle.flow_maps.specs.Outlooks.{Waiting, due_after, first_timer, is_by, is_within, moment_of, outlook_of, ready_of, ready_within, sooner, soonest, waiting, waiting_from, waiting_in, with_next, with_ready}
@@ -29,6 +29,7 @@ pub use Rattle.flow_maps.specs.Signals.{AreOf, IsTaken, IsUntaken, asked_by, at_
 pub use Rattle.flow_maps.specs.Timers.{of_run, timers_at, timers_of}
 pub use Rattle.flow_maps.specs.Turned.{is_open_after, is_open_behind, is_open_by}
 pub use Rattle.flow_maps.specs.Undoing.{GoesBack, IsUndo, Leads, LeadsBack, Returns, WasBefore, WasBegun}
+pub use Rattle.flow_maps.specs.declared.book_texts.BookTexts.{BookTexts}
 pub use Rattle.flow_maps.specs.declared.facts.Facts.{Facts}
 pub use Rattle.flow_maps.specs.declared.facts.KnownRuns.{KnownRuns}
 pub use Rattle.flow_maps.specs.declared.gathering.WaitingList.{WaitingList}

@@ -1,8 +1,8 @@
--- The texts of a book, which no change takes back.
+-- The texts of a book, which no change takes back, and how many there are.
 use Rattle.std.specs.Prelude.{◌≡◌, ◌+◌, ◌≤◌, ◌∷◌, ◌++◌}
-use Rattle.flow_maps.proofs.Names.{ℕ, zero, suc, Bool, true, false, cond, List, [], length, Option, Some, None, slice_get, refl, sym, ap, subst, ◌∙◌, arith, IfSome, get, IsUpperBound, nat_cmp, is_lt, Ordering, Less, Equal, Greater, is_some, ranked, Bytes, Change, AddText, AddRun, AddTurn, SetAttempt, SetText, Run, Book, nth, changed, with_run, with_turn, with_attempt, with_text, nth_at, TextBodies, IsText, KnowsTexts, is_run}
+use Rattle.flow_maps.proofs.Names.{ℕ, zero, suc, Bool, true, false, cond, List, [], length, Option, Some, None, slice_get, refl, sym, ap, subst, ◌∙◌, arith, IfSome, get, IsUpperBound, nat_cmp, is_lt, Ordering, Less, Equal, Greater, is_some, ranked, Bytes, Change, AddText, AddRun, AddTurn, SetAttempt, SetText, Run, Book, nth, changed, with_run, with_turn, with_attempt, with_text, nth_at, BookTexts, TextBodies, IsText, IsTextCount, KnowsBodies, KnowsTexts, is_run}
 use Rattle.flow_maps.proofs.Calling.{nth_longer}
-use Rattle.flow_maps.proofs.Planning.{none_is}
+use Rattle.flow_maps.proofs.Planning.{here_at, longer, more_at, none_is}
 use Rattle.flow_maps.proofs.Serving.{run_is as book_is, none_is_there}
 use Rattle.flow_maps.proofs.Slots.{run_is, run_itself}
 
@@ -31,14 +31,14 @@ text_stays b (AddTurn run t) n x h = ap (λ ts. nth ts n) (run_texts b run (with
 text_stays b (SetAttempt run event attempt ready) n x h = ap (λ ts. nth ts n) (run_texts b run (with_attempt event attempt ready)) ∙ h
 text_stays b (SetText run text) n x h = ap (λ ts. nth ts n) (run_texts b run (with_text text)) ∙ h
 
-pub texts_stay : (m : TextBodies) (b : Book) (c : Change) → KnowsTexts m b → KnowsTexts m (changed b c)
+pub texts_stay : (m : TextBodies) (b : Book) (c : Change) → KnowsBodies m b → KnowsBodies m (changed b c)
 texts_stay m b c knows n = by (get nat_cmp m.known n) (knows n)
   where
     by : (o : Option Bytes) → IsText o (nth b.texts n) → IsText o (nth (changed b c).texts n)
     by None h = tt
     by (Some x) h = text_stays b c n x h
 
-pub text_in : (m m' : TextBodies) (number : ℕ) (t : Bytes) → ((n : ℕ) → get nat_cmp m'.known n ≡ cond (is_run number n) (Some t) (get nat_cmp m.known n)) → (b : Book) → nth b.texts number ≡ Some t → KnowsTexts m b → KnowsTexts m' b
+pub text_in : (m m' : TextBodies) (number : ℕ) (t : Bytes) → ((n : ℕ) → get nat_cmp m'.known n ≡ cond (is_run number n) (Some t) (get nat_cmp m.known n)) → (b : Book) → nth b.texts number ≡ Some t → KnowsBodies m b → KnowsBodies m' b
 text_in m m' number t put b at knows n = subst (λ o. IsText o (nth b.texts n)) (sym (put n)) (by (is_run number n) refl)
   where
     by : (v : Bool) → is_run number n ≡ v → IsText (cond v (Some t) (get nat_cmp m.known n)) (nth b.texts n)
@@ -72,7 +72,7 @@ nth_before {A = A} xs y (suc k) less = nth_at (xs ++ y ∷ []) (suc k) k refl �
 
 -- the last of the texts that are known goes, and with it the last text
 pub text_less : (m m' : TextBodies) (last : ℕ) (x : Bytes) (b : Book) (t : Bytes) → get nat_cmp m.known last ≡ Some x → IsUpperBound nat_cmp m.known last
-    → ((n : ℕ) → get nat_cmp m'.known n ≡ cond (is_run last n) None (get nat_cmp m.known n)) → KnowsTexts m (record b { texts = b.texts ++ t ∷ [] }) → KnowsTexts m' b
+    → ((n : ℕ) → get nat_cmp m'.known n ≡ cond (is_run last n) None (get nat_cmp m.known n)) → KnowsBodies m (record b { texts = b.texts ++ t ∷ [] }) → KnowsBodies m' b
 text_less m m' last x b t there greatest out knows n = subst (λ o. IsText o (nth b.texts n)) (sym (out n)) (by (is_run last n) (get nat_cmp m.known n) refl refl (knows n))
   where
     most : last ≤ length b.texts + 1
@@ -86,6 +86,44 @@ text_less m m' last x b t there greatest out knows n = subst (λ o. IsText o (nt
         let apart : (n ≡ last → ⊥) = λ same. clash (is_run last n) (subst (λ k. is_run last k ≡ true) (sym same) (run_itself last)) other in
         sym (nth_before b.texts t n (fewer n last (length b.texts) apart less most)) ∙ h
 
-pub text_found : (m : TextBodies) (number : ℕ) (k : Bytes) (o : Option Bytes) → get nat_cmp m.known number ≡ Some k → IfSome o (λ t. t ≡ k) → IfSome o (λ t. (b : Book) → KnowsTexts m b → Some t ≡ nth b.texts number)
+pub text_found : (m : TextBodies) (number : ℕ) (k : Bytes) (o : Option Bytes) → get nat_cmp m.known number ≡ Some k → IfSome o (λ t. t ≡ k) → IfSome o (λ t. (b : Book) → KnowsBodies m b → Some t ≡ nth b.texts number)
 text_found m number k None there is = tt
 text_found m number k (Some t) there is = λ b knows. sym (subst (λ o. IsText o (nth b.texts number)) (there ∙ ap Some (sym is)) (knows number))
+
+---- How many there are
+
+-- a change of a run
+abbrev pub IsOfRun : Change → Type 0
+IsOfRun (AddText body) = ⊥
+IsOfRun (AddRun flow request text t) = Unit {0}
+IsOfRun (AddTurn run t) = Unit {0}
+IsOfRun (SetAttempt run event attempt ready) = Unit {0}
+IsOfRun (SetText run text) = Unit {0}
+
+same_texts : (b : Book) (c : Change) → IsOfRun c → (changed b c).texts ≡ b.texts
+same_texts b (AddText body) none = absurd none
+same_texts b (AddRun flow request text t) of_run = refl
+same_texts b (AddTurn run t) of_run = run_texts b run (with_turn t)
+same_texts b (SetAttempt run event attempt ready) of_run = run_texts b run (with_attempt event attempt ready)
+same_texts b (SetText run text) of_run = run_texts b run (with_text text)
+
+count_over : (o : Option ℕ) (b c : Book) → c.texts ≡ b.texts → IsTextCount o b → IsTextCount o c
+count_over None b c same h = tt
+count_over (Some n) b c same h = h ∙ ap (λ ts. length ts) (sym same)
+
+pub all_stay : (m : BookTexts) (b : Book) (c : Change) → IsOfRun c → KnowsTexts m b → KnowsTexts m (changed b c)
+all_stay m b c of_run h = (texts_stay m.bodies b c h.0, count_over m.count b (changed b c) (same_texts b c of_run) h.1)
+
+-- one more, by its number
+pub count_next : (b : Book) (body : Bytes) (o : Option ℕ) → IfSome o (λ n. n ≡ length b.texts + 1) → IsTextCount o (changed b (AddText body))
+count_next b body None h = tt
+count_next b body (Some n) h = h ∙ sym (longer b.texts body)
+
+pub next_there : (b : Book) (body : Bytes) (o : Option ℕ) → IfSome o (λ n. n ≡ length b.texts + 1) → IfSome o (λ n. nth (changed b (AddText body)).texts n ≡ Some body)
+next_there b body None h = tt
+next_there b body (Some n) h = more_at b.texts body n h n ∙ here_at n (Some body) (λ k. nth b.texts k)
+
+-- and one less
+pub count_last : (b : Book) (t : Bytes) (o : Option ℕ) → IsTextCount o (record b { texts = b.texts ++ t ∷ [] }) → IfSome o (λ n. n ≡ length b.texts + 1)
+count_last b t None h = tt
+count_last b t (Some n) h = h ∙ longer b.texts t

@@ -1,6 +1,6 @@
 -- How a change is taken back: what the books before it and behind it have to do with one another.
 use Rattle.std.specs.Prelude.{◌≡◌, ◌-◌, ◌+◌, if◌then◌else◌, ◌∷◌, ◌++◌}
-use Rattle.flow_maps.proofs.Names.{cases_Bool, inl, inr, ℕ, zero, suc, Bool, true, false, nat_eq, List, [], length, Option, Some, None, Vec, Global, slice_get, slice_set, refl, sym, ap, subst, ◌∙◌, arith, IfSome, MatchOption, Bytes, Change, AddText, AddRun, AddTurn, SetAttempt, SetText, Run, Book, nth, signalled, with_run, Head, IsIndex, name_of, request_key, KnowsTexts, replaced, Knows, KnowsOpen, KnowsRuns, made_of, KnowsFacts, Serves, IsUntaken, GoesBack, IsUndo, Leads, LeadsBack, Returns, WasBefore, WasBegun, Facts, KnownRuns, Maps, OpenSeats, TextBodies, Journal, RunBefore, Undo}
+use Rattle.flow_maps.proofs.Names.{cases_Bool, inl, inr, ℕ, zero, suc, Bool, true, false, nat_eq, List, [], length, Option, Some, None, Vec, Global, slice_get, slice_set, refl, sym, ap, subst, ◌∙◌, arith, IfSome, MatchOption, Bytes, Change, AddText, AddRun, AddTurn, SetAttempt, SetText, Run, Book, nth, signalled, with_run, Head, IsIndex, name_of, request_key, IsTextCount, KnowsTexts, replaced, Knows, KnowsOpen, KnowsRuns, made_of, KnowsFacts, Serves, IsUntaken, GoesBack, IsUndo, Leads, LeadsBack, Returns, WasBefore, WasBegun, Facts, KnownRuns, Maps, OpenSeats, BookTexts, Journal, RunBefore, Undo}
 use Rattle.flow_maps.proofs.Planning.{as_long, here_at, less_at, longer, more_at, next_free, none_is, of_at, same_view, set_at, some_is, twice_at}
 use Rattle.flow_maps.proofs.Seating.{known_same}
 use Rattle.flow_maps.proofs.Serving.{run_is}
@@ -143,5 +143,10 @@ texts_less f b c (t, made) h =
 pub known_facts : (o : Option Facts) (f : Facts) (b : Book) → o ≡ Some f → KnowsFacts o b → Knows f b
 known_facts o f b is h = subst (λ x. KnowsFacts x b) is h
 
-pub texts_kept : (m : TextBodies) (b c : Book) (rs : List Run) → c ≡ record b { runs = rs } → KnowsTexts m c → KnowsTexts m b
+pub texts_kept : (m : BookTexts) (b c : Book) (rs : List Run) → c ≡ record b { runs = rs } → KnowsTexts m c → KnowsTexts m b
 texts_kept m b c rs made h = subst (λ (x : Book). KnowsTexts m x) made h
+
+-- how many texts there are, where that is known
+pub counted_is : (m : Maps) (o : Option ℕ) → m.texts.count ≡ o → IfSome o (λ n. (b : Book) → Serves m b → n ≡ length b.texts)
+counted_is m None is = tt
+counted_is m (Some n) is = λ b h. subst (λ q. IsTextCount q b) is h.texts.1

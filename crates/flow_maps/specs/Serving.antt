@@ -1,4 +1,4 @@
--- What is known of a book: of its runs all or nothing, and some of its texts.
+-- What is known of a book: of its runs all or nothing, how many texts it has, and some of them.
 use Rattle.std.specs.Prelude.{Option, MatchOption}
 use Rattle.flow_model.specs.Book.{Book}
 use Rattle.flow_maps.specs.KnownTexts.{KnowsTexts}

@@ -46,16 +46,13 @@ impl Index {
         let Some(name) = Name::new(self.alloc, name.as_str().as_bytes()) else {
             return false;
         };
-        if self.map.contains_key(&name) {
-            return false;
-        }
         let Some(number) = in_four_bytes(run.get()) else {
             return false;
         };
-        let Ok(_) = self.map.insert(name, number) else {
+        let Ok(before) = self.map.insert(name, number) else {
             return false;
         };
-        true
+        before.is_none()
     }
 
     /// The same of a run that may have none.

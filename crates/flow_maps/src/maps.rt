@@ -1,4 +1,4 @@
-//! What is known of a book, kept beside it: of its runs all or nothing, and some of its texts.
+//! What is known of a book, kept beside it: of its runs all or nothing, how many texts it has, and some of them.
 ghost use Rattle.std.specs.Prelude.{MatchOption, ◌≡◌, ◌+◌, ◌++◌, ◌∷◌, [], length, IfSome, Some, true};
 ghost use Rattle.flow_base.specs.declared.book.Run.{Run as ARun};
 ghost use Rattle.flow_model.specs.Book as words;
@@ -11,12 +11,12 @@ ghost use Rattle.flow_maps.specs.Serving.{Serves, KnowsFacts};
 ghost use Rattle.flow_view.specs.Heads.{head_at, event_at};
 ghost use Rattle.flow_view.specs.Outlines.{outline_at};
 
+use crate::book_texts::BookTexts;
 use crate::calls::find_call;
 use crate::facts::Facts;
 use crate::heads::copied_if;
 use crate::outlook::{BookWaits, outlook};
 use crate::seat::{Seat, outline_by};
-use crate::texts::TextBodies;
 use crate::time_slots::first_due;
 use crate::undo::{Journal, Undo};
 use flow_base::book::{Change, Due, Run};
@@ -31,7 +31,7 @@ use std::alloc::Global;
 #[derive(Drop)]
 pub struct Maps {
     facts: Option<Facts>,
-    texts: TextBodies,
+    texts: BookTexts,
     journal: Journal,
 }
 
@@ -68,7 +68,7 @@ impl Maps {
     {
         Maps {
             facts: None,
-            texts: TextBodies::new(alloc),
+            texts: BookTexts::new(alloc),
             journal: Journal::new(alloc),
         }
     }
@@ -80,7 +80,7 @@ impl Maps {
     {
         Maps {
             facts: Some(Facts::none(alloc)),
-            texts: TextBodies::new(alloc),
+            texts: BookTexts::new(alloc),
             journal: Journal::new(alloc),
         }
     }
@@ -187,12 +187,18 @@ impl Maps {
         ensures serves { (b : Book) → nth b.texts number ≡ Some body.now → Serves self.old b → Serves self.new b }
         ensures journal { self.new.journal ≡ self.old.journal }
     {
-        if self.texts.has(number) {
+        if self.texts.bodies.has(number) {
             return;
         }
-        if let Ok(body) = body.copy(self.journal.alloc) {
-            self.texts.keep(number, body);
-        }
+        self.texts.bodies.keep_copy(number, body);
+    }
+
+    /// There are so many texts.
+    pub fn count_texts(&mut self, count: u64)
+        ensures serves { (b : Book) → length b.texts ≡ count → Serves self.old b → Serves self.new b }
+        ensures journal { self.new.journal ≡ self.old.journal }
+    {
+        self.texts.count_all(count);
     }
 
     /// The book is changed so.
@@ -201,6 +207,7 @@ impl Maps {
         ensures goes_back { (k b : Book) → Serves self.old b → GoesBack self.old k b → GoesBack self.new k (changed b change.now) }
     {
         let undo = note(&mut self.facts, change);
+        self.texts.follow(change);
         self.journal.add(undo);
     }
 
@@ -268,7 +275,14 @@ impl Maps {
     pub fn text(&self, number: TextNo) -> Option<RawText>
         ensures { IfSome result (λ t. (b : Book) → Serves self.now b → Some t ≡ nth b.texts number) }
     {
-        self.texts.find(number)
+        self.texts.bodies.find(number)
+    }
+
+    /// How many texts there are, if that is known.
+    pub fn text_count(&self) -> Option<u64>
+        ensures { IfSome result (λ n. (b : Book) → Serves self.now b → n ≡ length b.texts) }
+    {
+        self.texts.count
     }
 
     /// How many runs there are, if that is known.

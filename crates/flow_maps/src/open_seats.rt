@@ -8,6 +8,7 @@ ghost use Rattle.flow_maps.specs.Agenda.{is_open_run};
 ghost use Rattle.flow_maps.specs.OfRuns.{replaced};
 ghost use Rattle.flow_maps.specs.Seats.{IsSeated, KnowsOpen};
 
+use crate::apart::Apart;
 use crate::index::Index;
 use crate::seat::Seat;
 use crate::time_slots::{TimeSlots, put_in, take_out};
@@ -18,24 +19,31 @@ use std::collections::{BTreeMap, BTreeSet};
 /// Seats by run; the runs by their flows; and the slots of their timers and of their activities.
 #[derive(Drop)]
 pub struct OpenSeats {
-    pub(crate) by_run: BTreeMap<u64, Seat>,
+    alloc: Global,
+    pub(crate) by_run: BTreeMap<u64, Apart>,
     pub(crate) flows: Index,
     pub(crate) due: TimeSlots,
     pub(crate) ready: TimeSlots,
 }
 
-fn remove(seats: &mut BTreeMap<u64, Seat>, run: RunId) -> Option<Seat>
+fn remove(seats: &mut BTreeMap<u64, Apart>, run: RunId) -> Option<Seat>
     ensures taken { result ≡ get nat_cmp seats.old run }
     ensures others { (n : ℕ) → get nat_cmp seats.new n ≡ replaced run None (get nat_cmp seats.old) n }
 {
-    seats.remove(&run.get())
+    match seats.remove(&run.get()) {
+        Some(apart) => Some(apart.into_seat()),
+        None => None,
+    }
 }
 
 /// Whether there was memory for it.
-fn insert(seats: &mut BTreeMap<u64, Seat>, run: RunId, seat: Seat) -> bool
+fn insert(alloc: Global, seats: &mut BTreeMap<u64, Apart>, run: RunId, seat: Seat) -> bool
     ensures { result ≡ true → (n : ℕ) → get nat_cmp seats.new n ≡ replaced run (Some seat) (get nat_cmp seats.old) n }
 {
-    seats.insert(run.get(), seat).is_ok()
+    match Apart::new(alloc, seat) {
+        Some(apart) => seats.insert(run.get(), apart).is_ok(),
+        None => false,
+    }
 }
 
 impl OpenSeats {
@@ -44,6 +52,7 @@ impl OpenSeats {
         ensures { KnowsOpen result (λ n. None) }
     {
         OpenSeats {
+            alloc,
             by_run: BTreeMap::new(alloc),
             flows: Index::new(alloc),
             due: BTreeSet::new(alloc),
@@ -92,7 +101,7 @@ impl OpenSeats {
         if !put_in(&mut self.ready, run, seat.head.tasks.as_slice()) {
             return false;
         }
-        insert(&mut self.by_run, run, seat)
+        insert(self.alloc, &mut self.by_run, run, seat)
     }
 
     /// There is a run of this number, open or not. Whether there was memory for it.
@@ -112,7 +121,7 @@ impl OpenSeats {
             → (r : ARun) × (rs run ≡ Some r) × IsSeated (Some s.now) (Some r)) }
     {
         match self.by_run.get(&run.get()) {
-            Some(seat) => Some(seat),
+            Some(apart) => Some(apart.as_seat()),
             None => None,
         }
     }

@@ -12,8 +12,8 @@ ghost use Rattle.flow_maps.specs.Seats.{KnowsOpen, seat_tasks};
 ghost use Rattle.flow_maps.specs.Outlooks as rule;
 ghost use Rattle.flow_maps.specs.Outlooks.{is_within, ready_within, waiting, waiting_in};
 
+use crate::apart::Apart;
 use crate::open_seats::OpenSeats;
-use crate::seat::Seat;
 use crate::time_slots::{TimeSlots, first_due};
 use flow_base::book::{Due, OpenActivity};
 use flow_base::number::{Moment, RunId};
@@ -81,17 +81,17 @@ fn add_run(
     since: u64,
     at: Moment,
     number: u64,
-    seats: &BTreeMap<u64, Seat>,
+    seats: &BTreeMap<u64, Apart>,
 ) -> bool
     ensures { result ≡ true → list.new.items ≡ list.old.items ++ filter (is_within since at)
         (waiting_in number (seat_tasks (get nat_cmp seats.now number))) }
 {
     match seats.get(&number) {
-        Some(seat) => {
+        Some(apart) => {
             let Some(run) = RunId::new(number) else {
                 return false;
             };
-            add_tasks(list, since, at, run, seat.head.tasks.as_slice()).is_ok()
+            add_tasks(list, since, at, run, apart.as_seat().head.tasks.as_slice()).is_ok()
         }
         None => true,
     }

@@ -4,7 +4,7 @@ ghost use Rattle.std.specs.BTreeMap.{get, IsUpperBound};
 ghost use Rattle.std.specs.Ordering.{nat_cmp};
 ghost use Rattle.flow_base.specs.Syntax.{Bytes};
 ghost use Rattle.flow_model.specs.Book.{Book, nth};
-ghost use Rattle.flow_maps.specs.KnownTexts.{KnowsTexts};
+ghost use Rattle.flow_maps.specs.KnownTexts.{KnowsBodies};
 ghost use Rattle.flow_maps.specs.OfRuns.{is_run};
 
 use flow_base::number::TextNo;
@@ -52,7 +52,7 @@ fn take_last(known: &mut BTreeMap<u64, RawText>) -> Option<(u64, RawText)>
 impl TextBodies {
     /// None is known.
     pub fn new(alloc: Global) -> TextBodies
-        ensures { (b : Book) → KnowsTexts result b }
+        ensures { (b : Book) → KnowsBodies result b }
     {
         TextBodies {
             alloc,
@@ -63,7 +63,7 @@ impl TextBodies {
 
     /// From now on none is known.
     pub fn forget(&mut self)
-        ensures { (b : Book) → KnowsTexts self.new b }
+        ensures { (b : Book) → KnowsBodies self.new b }
     {
         self.known = BTreeMap::new(self.alloc);
         self.bytes = 0;
@@ -71,7 +71,7 @@ impl TextBodies {
 
     /// The text of a number, if it is known and there is memory for it.
     pub fn find(&self, number: TextNo) -> Option<RawText>
-        ensures { IfSome result (λ t. (b : Book) → KnowsTexts self.now b → Some t ≡ nth b.texts number) }
+        ensures { IfSome result (λ t. (b : Book) → KnowsBodies self.now b → Some t ≡ nth b.texts number) }
     {
         match self.known.get(&number.get()) {
             Some(body) => copied(self.alloc, body),
@@ -86,7 +86,7 @@ impl TextBodies {
 
     /// There is room for so many bytes more.
     fn make_room(&mut self, bytes: usize)
-        ensures { (b : Book) → KnowsTexts self.old b → KnowsTexts self.new b }
+        ensures { (b : Book) → KnowsBodies self.old b → KnowsBodies self.new b }
     {
         if bytes > MOST_BYTES || self.bytes > MOST_BYTES - bytes {
             self.forget();
@@ -98,7 +98,7 @@ impl TextBodies {
 
     /// The last text is there no more, if it is known. Another one that is the last of those that are known may be forgotten.
     pub fn take_back(&mut self)
-        ensures { (b : Book) → (t : Bytes) → KnowsTexts self.old (record b { texts = b.texts ++ t ∷ [] }) → KnowsTexts self.new b }
+        ensures { (b : Book) → (t : Bytes) → KnowsBodies self.old (record b { texts = b.texts ++ t ∷ [] }) → KnowsBodies self.new b }
     {
         match take_last(&mut self.known) {
             Some(last) => self.bytes = self.bytes.saturating_sub(last.1.as_str().len()),
@@ -107,16 +107,36 @@ impl TextBodies {
     }
 
     fn put(&mut self, number: TextNo, body: RawText)
-        ensures { (b : Book) → nth b.texts number ≡ Some body → KnowsTexts self.old b → KnowsTexts self.new b }
+        ensures { (b : Book) → nth b.texts number ≡ Some body → KnowsBodies self.old b → KnowsBodies self.new b }
     {
         if !insert(&mut self.known, number, body) {
             self.forget();
         }
     }
 
+    /// A copy of this is kept as the text of a number, if that is known and there is memory for it.
+    pub fn keep_next(&mut self, number: &Option<TextNo>, body: &RawText)
+        ensures { (b : Book) → IfSome number.now (λ n. nth b.texts n ≡ Some body.now) → KnowsBodies self.old b → KnowsBodies self.new b }
+    {
+        match number {
+            Some(number) => self.keep_copy(*number, body),
+            None => {}
+        }
+    }
+
+    /// The same of a number that is known.
+    pub fn keep_copy(&mut self, number: TextNo, body: &RawText)
+        ensures { (b : Book) → nth b.texts number ≡ Some body.now → KnowsBodies self.old b → KnowsBodies self.new b }
+    {
+        match copied(self.alloc, body) {
+            Some(copy) => self.keep(number, copy),
+            None => {}
+        }
+    }
+
     /// This is the text of a number. One that is longer than all room isn't kept.
     pub fn keep(&mut self, number: TextNo, body: RawText)
-        ensures { (b : Book) → nth b.texts number ≡ Some body → KnowsTexts self.old b → KnowsTexts self.new b }
+        ensures { (b : Book) → nth b.texts number ≡ Some body → KnowsBodies self.old b → KnowsBodies self.new b }
     {
         let bytes = body.as_str().len();
         if bytes <= MOST_BYTES {

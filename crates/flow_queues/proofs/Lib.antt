@@ -1,2 +1,4 @@
+pub mod Stretches
 pub mod Once
 pub mod Chosen
+pub mod Still

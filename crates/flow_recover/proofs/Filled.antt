@@ -1,8 +1,9 @@
 -- The positions that are found at opening are reached in the book that was read.
-use Rattle.std.proofs.Common.{◌≡◌, ◌⊎◌, inl, inr, ℕ, zero, suc, ◌+◌, List, [], ◌∷◌, ◌++◌, true, false, Option, Some, None, refl, sym, ap, ◌∙◌, subst, arith, append-nil}
+use Rattle.std.proofs.Common.{◌≡◌, ◌⊎◌, inl, inr, ℕ, zero, suc, ◌+◌, List, [], ◌∷◌, ◌++◌, true, false, Option, Some, None, refl, sym, ap, ◌∙◌, subst, arith, append-nil, take, drop}
 use Rattle.std.specs.Prelude.{Contains, ◌<◌, length, slice_get, slice_index_or, if◌then◌else◌}
 use Rattle.std.proofs.lemmas.Bool.{cases_Bool}
-use Rattle.std.proofs.lemmas.List.Elements.{Contains-append_cases}
+use Rattle.std.proofs.lemmas.List.{take-append-drop}
+use Rattle.std.proofs.lemmas.List.Elements.{Contains-append_cases, Contains-append_left}
 use Rattle.flow_base.specs.declared.book.Run.{Run}
 use Rattle.flow_cache.specs.Laws.{AllHave}
 use Rattle.flow_machine.specs.Reached.{HasReached}
@@ -85,6 +86,15 @@ one_led qs q l old new here led (inl is) all m there = elim (Contains-append_cas
     only zero lt same = same
     only (suc k) lt same = absurd (omega (arith, lt))
 one_led qs q l old new here led (inr is) all m there = all m (subst (λ (xs : List Led). Contains xs m) is there)
+
+-- each of the first is one of all
+pub led_among : (qs all : List Position) (ls : List Led) → qs ≡ take (length qs) all → AreLedTo qs ls → AreLedTo all ls
+led_among qs all ls first led l there = let it = led l there in (it.0, (among it.0 it.1.0, it.1.1))
+  where
+    among : (q : Position) → Contains qs q → Contains all q
+    among q here =
+        subst (λ (l : List Position). Contains l q) (take-append-drop (length qs) all)
+        (Contains-append_left (take (length qs) all) (drop (length qs) all) q (subst (λ (l : List Position). Contains l q) first here))
 
 pub all_reached : (u : Meaning) (b : Book) (qs : List Position) (old new : Seats) → old.kept.entries ≡ [] → AreLedTo qs old.ahead.items → Settles old new → ArePositions u b qs → AllHave (ReachedIn u b) new.kept.entries
 all_reached u b qs old new none led settles are run e there = elim (settles_all old new settles (run, e) there) [

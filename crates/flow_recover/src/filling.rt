@@ -1,11 +1,12 @@
 //! The positions that a keeper begins with.
-ghost use Rattle.std.specs.Prelude.{◌≡◌, ◌≤◌, [], IfOk, IfErr, length};
+ghost use Rattle.std.specs.Prelude.{◌≡◌, ◌≤◌, [], List, IfOk, IfErr, length, take};
 ghost use Rattle.flow_cache.specs.Laws.{AllHave};
 ghost use Rattle.flow_check.specs.Language.{meaning_of};
 ghost use Rattle.flow_machine.specs.Seated.{ReachedIn};
 ghost use Rattle.flow_model.specs.Book.{Book};
 ghost use Rattle.flow_recover.specs.Filling.{IsLedTo};
 ghost use Rattle.flow_recover.specs.Positions.{ArePositions};
+ghost use Rattle.flow_recover.specs.declared.positions.Position.{Position as APosition};
 ghost use Rattle.flow_base.specs.declared.fault.Fault.TheVariants.{NoMemory};
 
 use crate::positions::Position;
@@ -49,8 +50,9 @@ pub(crate) fn seats_of(
     requires first { 1 ≤ capacity }
     requires last { capacity ≤ 4096 }
     ensures none { IfOk result (λ s. s.ahead.items ≡ []) }
-    ensures reached { IfOk result (λ s. (b : Book) → ArePositions meaning_of b positions.now
-        → AllHave (ReachedIn meaning_of b) s.kept.entries) }
+    // They are the first of all positions.
+    ensures reached { IfOk result (λ s. (b : Book) (all : List APosition) → positions.now ≡ take (length positions.now) all
+        → ArePositions meaning_of b all → AllHave (ReachedIn meaning_of b) s.kept.entries) }
     ensures memory { IfErr result (λ f. f ≡ NoMemory _) }
 {
     let mut seats = Seats::new(alloc, capacity)?;

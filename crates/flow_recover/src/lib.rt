@@ -3,6 +3,7 @@
 
 pub mod damage;
 mod filling;
+pub mod found;
 pub mod positions;
 pub mod recover;
 pub mod reopen;

@@ -5,6 +5,8 @@ use Rattle.sqlite_trees.specs.declared.store.Store.{Ghosts}
 use Rattle.flow_base.specs.declared.fault.Fault.{Fault}
 use Rattle.flow_base.specs.declared.submission.Taken.{Taken}
 use Rattle.flow_commit.specs.Keeping.{Keeping, account_of}
+use Rattle.flow_commit.specs.Shutting.{AreOver}
+use Rattle.flow_commit.proofs.Overs.{none_over}
 use Rattle.flow_queues.specs.declared.refused.Refused.{Refused}
 use Rattle.flow_hub.specs.Knowing.{nothing}
 use Rattle.flow_hub.specs.Publishing.{Together}
@@ -17,6 +19,10 @@ module _ {S : Type 0} (g : Ghosts S) where
   -- what has kept nothing and what was told nothing stand together
   pub together_new : (old : Keeping S) (k : HubFacts) → old.log ≡ [] → k ≡ nothing → Together (account_of g old) k
   together_new old k fresh none = subst (λ (x : HubFacts). Together (account_of g old) x) (sym none) (record { log = fresh; over = tt; none = refl })
+
+  -- and of no run anything is left out
+  pub over_new : (old : Keeping S) (k : HubFacts) → k ≡ nothing → AreOver g old k.gone
+  over_new old k none = subst (λ (x : HubFacts). AreOver g old x.gone) (sym none) (none_over g old)
 
   -- what was served, whatever has ended it
   served_so : (old new : Keeping S) (was now : List Refused) (r : Result Unit Fault)

@@ -209,68 +209,68 @@ unserved g old was last waiting turns = served_behind g old old was was last wai
 
 ---- Boards
 
--- The batches so far, and the boards that were asked for: one more.
-pub record Turned {S : Type 0} (g : Ghosts S) (tells : ℕ → Type 0) (old now : Keeping S) (was told : List Refused)
+-- The batches so far, and the boards that were asked for: one more, if it is sure that what is gone is over.
+pub record Turned {S : Type 0} (g : Ghosts S) (sure : Type 0) (tells : ℕ → Type 0) (old now : Keeping S) (was told : List Refused)
     (first posted : List Task) (left missed : List Fault) : Type 0 where
   pub count : ℕ
   pub served : Served g old now was told count
-  pub turns : HasTurns g tells old now first posted left missed (suc count)
+  pub turns : sure → HasTurns g tells old now first posted left missed (suc count)
 
 module _ {S : Type 0} (g : Ghosts S) (tells : ℕ → Type 0) (old : Keeping S) (was : List Refused) (first : List Task) (left : List Fault) where
   -- the first board
-  pub boarded_first : (new : Keeping S) (told : List Refused) (posted : List Task) (missed : List Fault) → IsStill g old new → told ≡ was
-      → HasTurn g tells old new first posted left missed → Turned g tells old new was told first posted left missed
-  boarded_first new told posted missed still same turn = record {
+  pub boarded_first : (sure : Type 0) (new : Keeping S) (told : List Refused) (posted : List Task) (missed : List Fault) → IsStill g old new → told ≡ was
+      → (sure → HasTurn g tells old new first posted left missed) → Turned g sure tells old new was told first posted left missed
+  boarded_first sure new told posted missed still same turn = record {
     count = 0;
     served = served_still g old old new was was told 0 (none_served g old was) still same;
-    turns = turns_more g tells old old new first first posted left left missed 0 (no_turns g tells old first left) refl still
-        (λ _. since_self (state_of g old.stored)) turn;
+    turns = λ over. turns_more g tells old old new first first posted left left missed 0 (no_turns g tells old first left) refl still
+        (λ _. since_self (state_of g old.stored)) (turn over);
   }
 
-  module _ (mid kept new : Keeping S) (then told now : List Refused) (posted : List Task) (since : List Fault) (batch : List Taken) (size : IsBatch batch)
-      (b : Turned g tells old mid was then first posted left since) (one : HasAnswered g mid kept then told batch) (found : kept.found ≡ mid.found)
+  module _ (sure : Type 0) (mid kept new : Keeping S) (then told now : List Refused) (posted : List Task) (since : List Fault) (batch : List Taken) (size : IsBatch batch)
+      (b : Turned g sure tells old mid was then first posted left since) (one : HasAnswered g mid kept then told batch) (found : kept.found ≡ mid.found)
     where
       behind : Served g old kept was told (suc b.count)
       behind = served_more g old mid kept was then told b.count b.served batch size one
 
-      committed : (posted' : List Task) (missed : List Fault) → posted' ≡ posted → missed ≡ since
+      committed : (posted' : List Task) (missed : List Fault) → posted' ≡ posted → missed ≡ since → sure
           → HasTurns g tells old kept first posted' left missed (suc b.count)
-      committed posted' missed same none = turns_on g tells old mid kept first posted posted' left since missed (suc b.count)
-          (answered_later g mid kept then told batch one found) same none one.on b.turns
+      committed posted' missed same none over = turns_on g tells old mid kept first posted posted' left since missed (suc b.count)
+          (answered_later g mid kept then told batch one found) same none one.on (b.turns over)
 
       -- one batch more, and a board behind it
       pub boarded_more : (posted' after' : List Task) (missed behind' : List Fault) → posted' ≡ posted → missed ≡ since
           → kept.halted ≡ old.halted → IsStill g kept new → now ≡ told
-          → HasTurn g tells kept new posted' after' missed behind' → Turned g tells old new was now first after' left behind'
+          → (sure → HasTurn g tells kept new posted' after' missed behind') → Turned g sure tells old new was now first after' left behind'
       boarded_more posted' after' missed behind' same none halted still told_on turn = record {
         count = suc b.count;
         served = served_still g old kept new was told now (suc b.count) behind still told_on;
-        turns = turns_more g tells old kept new first posted' after' left missed behind' (suc b.count) (committed posted' missed same none) halted still
-            behind.since turn;
+        turns = λ over. turns_more g tells old kept new first posted' after' left missed behind' (suc b.count) (committed posted' missed same none over) halted still
+            behind.since (turn over);
       }
 
       -- one batch more, and nothing behind it
-      pub boarded_last : (posted' : List Task) (missed : List Fault) → posted' ≡ posted → missed ≡ since
+      pub boarded_last : (posted' : List Task) (missed : List Fault) → posted' ≡ posted → missed ≡ since → sure
           → ServesBoarded g tells old kept was told [] first posted' left missed 0
       unfolding has_served behind
-      boarded_last posted' missed same none =
+      boarded_last posted' missed same none over =
           let served = behind in
           let many : length served.batches ≡ suc b.count = served.many in
           let count : suc b.count ≡ 0 + length served.batches = omega (arith, many) in
           record {
             served = has_served g old kept was told (suc b.count) served;
-            turns = subst (λ (n : ℕ). HasTurns g tells old kept first posted' left missed n) count (committed posted' missed same none);
+            turns = subst (λ (n : ℕ). HasTurns g tells old kept first posted' left missed n) count (committed posted' missed same none over);
           }
 
   -- the hub is closed, and nothing more is taken
-  pub boarded_done : (mid : Keeping S) (then told : List Refused) (posted posted' : List Task) (since missed : List Fault) → told ≡ then
-      → posted' ≡ posted → missed ≡ since → Turned g tells old mid was then first posted left since
+  pub boarded_done : (sure : Type 0) (mid : Keeping S) (then told : List Refused) (posted posted' : List Task) (since missed : List Fault) → told ≡ then
+      → posted' ≡ posted → missed ≡ since → Turned g sure tells old mid was then first posted left since → sure
       → ServesBoarded g tells old mid was told [] first posted' left missed 1
   unfolding has_served
-  boarded_done mid then told posted posted' since missed same none skips b =
+  boarded_done sure mid then told posted posted' since missed same none skips b over =
       let served = subst (λ (rs : List Refused). Served g old mid was rs b.count) (sym same) b.served in
       let turns = subst (λ (fs : List Fault). HasTurns g tells old mid first posted' left fs (suc b.count)) (sym skips)
-      (subst (λ (ts : List Task). HasTurns g tells old mid first ts left since (suc b.count)) (sym none) b.turns) in
+      (subst (λ (ts : List Task). HasTurns g tells old mid first ts left since (suc b.count)) (sym none) (b.turns over)) in
       let many : length served.batches ≡ b.count = served.many in
       let count : suc b.count ≡ 1 + length served.batches = omega (arith, many) in
       record {

@@ -1,5 +1,5 @@
 -- What an engine that serves a hub posts: what boards of the kept book name, at moments that the clock told.
-use Rattle.std.specs.Prelude.{◌≡◌, ◌⊎◌, ◌+◌, ℕ, suc, true, false, List, [], ◌∷◌, ◌++◌, length, All}
+use Rattle.std.specs.Prelude.{◌≡◌, ◌⊎◌, ◌+◌, ◌&&◌, not, ℕ, suc, true, false, List, [], ◌∷◌, ◌++◌, length, All}
 use mathlib.Core.List.{IsPrefix}
 use Rattle.sqlite_trees.specs.declared.store.Store.{Ghosts}
 use Rattle.flow_base.specs.Keys.{Key}
@@ -14,7 +14,8 @@ use Rattle.flow_commit.specs.Boards.{Boarded, IsBoardOf, IsOfBoard, is_posted}
 use Rattle.flow_commit.specs.Committing.{IsDown}
 use Rattle.flow_commit.specs.Keeping.{Keeping, IsFit, logged, rules}
 use Rattle.flow_engine.specs.Counting.{IsHeldBack}
-use Rattle.flow_queues.specs.Posting.{HasKeys, has_key, new_ones}
+use Rattle.flow_commit.specs.Shutting.{AreOver}
+use Rattle.flow_queues.specs.Posting.{HasKeys, has_key, is_of, new_ones}
 
 -- A board was posted where these tasks had been: it was made of the book that the first so many commands left which were kept since the
 -- store was opened, at a moment that the clock told, and leaves out the tasks that had been posted by then and no others.
@@ -37,9 +38,18 @@ pub record Posts {S : Type 0} (g : Ghosts S) (tells : ℕ → Type 0) (now : Kee
   pub boards : List Boarded
   pub are : ArePosted g tells now was posted boards
 
--- As long as the engine goes on, all that had been posted when its last board was made is posted still.
-abbrev pub IsKnown : {S : Type 0} → Keeping S → List Task → Type 0
-IsKnown k posted = k.halted ≡ false → (q : Key) → is_posted k.posted q ≡ true → has_key posted q ≡ true
+-- As long as the engine goes on, all that had been posted when its last board was made is posted still and known to the publisher, but for
+-- what is of runs that are over.
+pub record IsKnown {S : Type 0} (g : Ghosts S) (k : Keeping S) (posted : List Task) (gone : List ℕ) : Type 0 where
+  pub over : List ℕ
+  pub shut : AreOver g k over
+  pub still : k.halted ≡ false → (q : Key) → is_posted k.posted q ≡ true → is_of over q.0 ≡ false → (has_key posted q && not (is_of gone q.0)) ≡ true
+
+-- The runs that are gone since then are over.
+pub record LetsGo {S : Type 0} (g : Ghosts S) (new : Keeping S) (was gone : List ℕ) : Type 0 where
+  pub more : List ℕ
+  pub are : gone ≡ was ++ more
+  pub over : AreOver g new more
 
 ---- Boards that were skipped
 

@@ -3,12 +3,12 @@ ghost use Rattle.std.specs.Prelude.{◌≡◌, ◌≤◌, true, false, [], List,
 ghost use Rattle.std.specs.Vec.{vec_capacity};
 ghost use Rattle.flow_base.specs.declared.fault.Fault.{Fault as AFault};
 ghost use Rattle.flow_base.specs.declared.submission.Taken.{Taken as ATaken};
-ghost use Rattle.flow_commit.specs.Boards.{AreAmong};
 ghost use Rattle.flow_commit.specs.Calls.{BoardSays};
 ghost use Rattle.flow_commit.specs.Keeping.{account_of};
+ghost use Rattle.flow_commit.specs.Shutting.{AreKnown, AreOver};
 ghost use Rattle.flow_hub.specs.Knowing.{IsBefore};
 ghost use Rattle.flow_engine.specs.Boarding.{IsStill};
-ghost use Rattle.flow_serve.specs.Posting.{HasNoBoard, HasTurn, IsKnown, Posts, PostsOne, SkipsFor};
+ghost use Rattle.flow_serve.specs.Posting.{HasNoBoard, HasTurn, IsKnown, LetsGo, Posts, PostsOne, SkipsFor};
 ghost use Rattle.flow_hub.specs.Publishing.{InHand, IsDone, TakesAll, Together};
 ghost use Rattle.flow_engine.specs.Answering.{Follows};
 ghost use Rattle.flow_serve.specs.Serving.{EndsFor, GivesUp, HasAnswered, HasServed, ServesBoarded, StopsAt, StopsFor, TurnsAway};
@@ -67,12 +67,15 @@ fn commit_taken<S: Alter, B: Room, R: Wait>(
     ensures ended { publisher.new.ended ≡ publisher.old.ended }
     ensures found { engine.new.found ≡ engine.old.found }
     ensures still { engine.new.posted ≡ engine.old.posted }
+    // The runs whose keys are let go of are over.
+    ensures lets_go { LetsGo S.Store engine.new publisher.old.gone publisher.new.gone }
     ensures follows { Follows S.Store engine.old engine.new }
     ensures grows { IsBefore publisher.old publisher.new }
 {
     match engine.commit(batch) {
         Outcome::Kept(receipts, stamp) => {
-            publisher.publish(rt, receipts, stamp);
+            // If memory was refused, the keys of some runs stay: that costs room and nothing else.
+            let _left = publisher.publish(rt, receipts, stamp);
             Ok(())
         }
         Outcome::NotApplied(back, fault) => {
@@ -97,7 +100,7 @@ fn ask_board<S: Alter>(
     at: Moment,
     again: bool,
 ) -> Result<Board, Fault>
-    requires still { again ≡ true → engine.old.halted ≡ false → AreAmong engine.old.posted posted.now.keys }
+    requires still { again ≡ true → engine.old.halted ≡ false → AreKnown S.Store engine.old posted.now.keys }
     ensures { BoardSays S.Store posted.now.keys at engine.old engine.new result }
 {
     if again {
@@ -116,14 +119,16 @@ fn try_board<S: Alter, B: Room, R: Wait, C: Clock>(
     again: bool,
 ) -> Result<(), Fault>
     requires together { Together (account_of S.Store engine.old) publisher.old }
-    requires known { again ≡ true → IsKnown engine.old publisher.old.posted }
+    requires known { again ≡ true → IsKnown S.Store engine.old publisher.old.posted publisher.old.gone }
     ensures together { Together (account_of S.Store engine.new) publisher.new }
-    ensures known { IsKnown engine.new publisher.new.posted }
+    ensures known { IsKnown S.Store engine.new publisher.new.posted publisher.new.gone }
     ensures boarded { OnOk result (publisher.new.boarded ≡ true) }
-    ensures tried { MatchResult result
+    ensures tried { AreOver S.Store engine.old publisher.old.gone → MatchResult result
         (λ _. PostsOne S.Store (C.tells clock.now) engine.new publisher.old.posted publisher.new.posted)
         (λ f. (publisher.new.posted ≡ publisher.old.posted) × HasNoBoard S.Store engine.old engine.new f) }
-    ensures posts { Posts S.Store (C.tells clock.now) engine.new publisher.old.posted publisher.new.posted }
+    ensures posts { AreOver S.Store engine.old publisher.old.gone
+        → Posts S.Store (C.tells clock.now) engine.new publisher.old.posted publisher.new.posted }
+    ensures gone { publisher.new.gone ≡ publisher.old.gone }
     ensures still { IsStill S.Store engine.old engine.new }
     ensures refused { publisher.new.refused ≡ publisher.old.refused }
     ensures skipped { publisher.new.skipped ≡ publisher.old.skipped }
@@ -150,14 +155,17 @@ fn post_board<S: Alter, B: Room, R: Wait, C: Clock>(
     again: bool,
 )
     requires together { Together (account_of S.Store engine.old) publisher.old }
-    requires known { again ≡ true → IsKnown engine.old publisher.old.posted }
+    requires known { again ≡ true → IsKnown S.Store engine.old publisher.old.posted publisher.old.gone }
     ensures together { Together (account_of S.Store engine.new) publisher.new }
-    ensures known { IsKnown engine.new publisher.new.posted }
+    ensures known { IsKnown S.Store engine.new publisher.new.posted publisher.new.gone }
     ensures boarded { publisher.new.boarded ≡ true }
     // One was made and posted, or it was skipped for two faults that are told of this engine, one of each time that it was refused.
-    ensures turn { HasTurn S.Store (C.tells clock.now) engine.old engine.new publisher.old.posted publisher.new.posted
+    ensures turn { AreOver S.Store engine.old publisher.old.gone
+        → HasTurn S.Store (C.tells clock.now) engine.old engine.new publisher.old.posted publisher.new.posted
         publisher.old.skipped publisher.new.skipped }
-    ensures posts { Posts S.Store (C.tells clock.now) engine.new publisher.old.posted publisher.new.posted }
+    ensures posts { AreOver S.Store engine.old publisher.old.gone
+        → Posts S.Store (C.tells clock.now) engine.new publisher.old.posted publisher.new.posted }
+    ensures gone { publisher.new.gone ≡ publisher.old.gone }
     ensures still { IsStill S.Store engine.old engine.new }
     ensures refused { publisher.new.refused ≡ publisher.old.refused }
     ensures takes { publisher.new.takes ≡ publisher.old.takes }
@@ -196,13 +204,15 @@ fn serve_all<S: Alter, B: Room, R: Wait + time::Clock, C: Clock>(
         (λ f. (waiting : List ATaken) × StopsFor engine.old engine.new publisher.old.refused publisher.new.refused waiting f) }
     ensures served { HasServed S.Store engine.old engine.new publisher.old.refused publisher.new.refused [] }
     // A board was asked for before each batch, and behind the last one that doesn't halt the engine.
-    ensures boards { MatchResult result
+    ensures boards { AreOver S.Store engine.old publisher.old.gone → MatchResult result
         (λ _. ServesBoarded S.Store (C.tells clock.now) engine.old engine.new publisher.old.refused publisher.new.refused []
         publisher.old.posted publisher.new.posted publisher.old.skipped publisher.new.skipped 1)
         (λ _. ServesBoarded S.Store (C.tells clock.now) engine.old engine.new publisher.old.refused publisher.new.refused []
         publisher.old.posted publisher.new.posted publisher.old.skipped publisher.new.skipped 0) }
     ensures whole { TakesAll most publisher.old publisher.new }
-    ensures posts { Posts S.Store (C.tells clock.now) engine.new publisher.old.posted publisher.new.posted }
+    ensures posts { AreOver S.Store engine.old publisher.old.gone
+        → Posts S.Store (C.tells clock.now) engine.new publisher.old.posted publisher.new.posted }
+    ensures over { AreOver S.Store engine.old publisher.old.gone → AreOver S.Store engine.new publisher.new.gone }
     ensures found { engine.new.found ≡ engine.old.found }
     ensures follows { Follows S.Store engine.old engine.new }
     ensures grows { IsBefore publisher.old publisher.new }
@@ -234,6 +244,7 @@ fn turn_away<B: Room, R: Wait + time::Clock>(
     ensures ended { publisher.new.ended ≡ true }
     ensures none { publisher.new.held ≡ [] }
     ensures history { (publisher.new.history ≡ publisher.old.history) × (publisher.new.last ≡ publisher.old.last) }
+    ensures gone { publisher.new.gone ≡ publisher.old.gone }
     ensures posted { publisher.new.posted ≡ publisher.old.posted }
     ensures skipped { SkipsFor fault.now publisher.old.skipped publisher.new.skipped }
     ensures whole { TakesAll most publisher.old publisher.new }
@@ -262,7 +273,8 @@ fn turn_away<B: Room, R: Wait + time::Clock>(
 /// waits by `Submitter::next_tick` brings within a minute.
 ///
 /// By the caller's condition the publisher has published what the engine has kept, as it is of an engine that has kept no
-/// batch since it was opened and a publisher that has published none.
+/// batch since it was opened and a publisher that has published none. What is posted is said for a publisher whose runs that are gone,
+/// if there are any, are over for this engine: one that has published nothing has none, and after serving it is so.
 ///
 /// # Failure
 /// E01 before anything is taken: the hub is closed, and all that waits is answered E85. Room for later lists is asked for
@@ -296,7 +308,7 @@ pub fn serve<S: Alter, B: Room, R: Wait + time::Clock, C: Clock>(
     // for E01, E85 of an engine that had halted, or E80, and that no more often than the store has failed, if nothing else holds it back.
     // Each such fault is one that the publisher was told of, so an E01 is one that an allocator has answered. Behind a fault that ends
     // serving there is no board, for that one.
-    ensures boards { MatchResult result
+    ensures boards { AreOver S.Store engine.old publisher.old.gone → MatchResult result
         (λ _. ServesBoarded S.Store (C.tells clock.now) engine.old engine.new publisher.old.refused publisher.new.refused []
         publisher.old.posted publisher.new.posted publisher.old.skipped publisher.new.skipped 1)
         (λ f. (waiting : List ATaken) × (missed : List AFault)
@@ -305,7 +317,10 @@ pub fn serve<S: Alter, B: Room, R: Wait + time::Clock, C: Clock>(
     // What waited was taken together: `most` at once, or all.
     ensures whole { TakesAll most publisher.old publisher.new }
     // All that is posted is what boards of the kept book name, each made behind a beginning of what is kept, at a moment of the clock.
-    ensures posts { Posts S.Store (C.tells clock.now) engine.new publisher.old.posted publisher.new.posted }
+    ensures posts { AreOver S.Store engine.old publisher.old.gone
+        → Posts S.Store (C.tells clock.now) engine.new publisher.old.posted publisher.new.posted }
+    // Of runs that are over nothing is posted any more, and their keys aren't kept: where that was so of this engine, it is.
+    ensures over { AreOver S.Store engine.old publisher.old.gone → AreOver S.Store engine.new publisher.new.gone }
     ensures found { engine.new.found ≡ engine.old.found }
     ensures follows { Follows S.Store engine.old engine.new }
     ensures grows { IsBefore publisher.old publisher.new }

@@ -163,9 +163,9 @@ pub fn recovers<S: Alter>(
     conn: Connection<S>,
     recovering: Recovering,
 ) -> (bool, Connection<S>) {
-    match recover(alloc, conn, most_of(recovering), &mut Unwatched) {
+    match recover(alloc, conn, most_of(recovering), 256, &mut Unwatched) {
         Ok((keeper, positions)) => {
-            let found = found_at(positions.as_slice(), keeper.is_halted());
+            let found = found_at(positions.first(), keeper.is_halted());
             drop(positions);
             done(alloc, keeper, found, recovering)
         }

@@ -12,6 +12,7 @@ use flow_base::text::{Key, RawText};
 use flow_base::value::Value;
 use flow_check::language::Language;
 use flow_programs::kept::Kept;
+use flow_recover::found::ALL;
 use flow_recover::positions::Position;
 use flow_recover::replayer::{Replayer, positions};
 use flow_rows::book::WholeBook;
@@ -157,7 +158,7 @@ fn is_refused_so(fault: &Fault, case: Case) -> bool {
 fn has(replayer: &Replayer<Kept<Language>>, case: Case) -> bool {
     match &replayer.refused() {
         Some(fault) => is_refused_so(fault, case),
-        None => are_so_in(replayer.positions(), case),
+        None => are_so_in(replayer.positions().first(), case),
     }
 }
 
@@ -172,7 +173,7 @@ pub fn has_positions<S: Alter>(
     conn: Connection<S>,
     case: Case,
 ) -> (bool, Connection<S>) {
-    let listener = Replayer::new(alloc, Kept::new(alloc, Language));
+    let listener = Replayer::new(alloc, Kept::new(alloc, Language), ALL);
     match Tables::open(alloc, &Language, conn, listener) {
         Ok((tables, _book, replayer)) => (is_so(alloc, replayer, case), tables.into_connection()),
         Err((_, conn)) => (false, conn),

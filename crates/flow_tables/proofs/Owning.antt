@@ -211,9 +211,6 @@ module _ (old new : State) (ours : Type 0) (ro rn : Option Refusal) (owned : our
     pub read_leaves : ours → HasCleanDisk new → LeavesCommit old new
     read_leaves fit now = cut_leaves old new (shows fit now).0 (refused_first old new (refused_at fit now))
 
-    pub read_aware : (k : RowFacts) → (ours → HasCleanDisk old → IsAware old ro k) → ours → HasCleanDisk new → IsAware new rn k
-    read_aware k aware fit now same _ = still_so r (value (book_of old.now)) (λ d. IsKnown k (tables_in d)) (told_at r value reads fit now) noted (aware fit (clean now) none inside) same
-
   pub follows_on : (a : State) → (ours → Holds true old → Survives old new (λ _. ⊥)) → (ours → HasCleanDisk new → LeavesCommit old new) → KeepsOn ours a old → WasUp ours a old → HasCounted ours a old
       → KeepsOn ours a new × WasUp ours a new × HasCounted ours a new
   follows_on a survives leaves before up counted = (

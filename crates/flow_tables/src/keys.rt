@@ -1,6 +1,6 @@
 //! What is known of a book that was read whole, and the reads of a book that it may answer.
 ghost use Rattle.std.specs.Prelude.{◌≡◌};
-ghost use Rattle.flow_tables.specs.Names.{Book, IfSome, List, Bytes};
+ghost use Rattle.flow_tables.specs.Names.{Book, IfSome, List, Bytes, length};
 ghost use Rattle.flow_maps.specs.Serving.{Serves};
 ghost use Rattle.flow_maps.specs.Undoing.{GoesBack};
 ghost use Rattle.flow_rows.specs.Whole.{shown_book};
@@ -33,12 +33,20 @@ fn keys_of_runs(alloc: Global, runs: &[Run]) -> Maps
     maps
 }
 
+fn text_count(book: &WholeBook) -> u64
+    ensures { result ≡ length book.now.texts }
+{
+    book.texts.as_slice().len() as u64
+}
+
 /// What is known of a book that was read whole.
 pub(crate) fn keys_of_book(alloc: Global, book: &WholeBook) -> Maps
     ensures serves { Serves result (shown_book book.now) }
     ensures goes_back { (b : Book) → GoesBack result b b }
 {
-    keys_of_runs(alloc, book.runs.as_slice())
+    let mut maps = keys_of_runs(alloc, book.runs.as_slice());
+    maps.count_texts(text_count(book));
+    maps
 }
 
 /// A read of the book that its keys may answer.
@@ -59,7 +67,7 @@ impl ByKey for Of<RunOf<'_>> {
 impl ByKey for Of<Count> {
     fn find(&self, maps: &Maps) -> Option<u64> {
         match &self.0 {
-            LastText => None,
+            LastText => maps.text_count(),
             LastRun => maps.run_count(),
         }
     }

@@ -5,7 +5,6 @@ ghost use Rattle.std.specs.Prelude.{◌≡◌};
 ghost use Rattle.flow_maps.specs.Serving.{Serves};
 ghost use Rattle.flow_tables.specs.Known as words;
 ghost use Rattle.flow_tables.specs.Names.{Book, Tables, Tells};
-ghost use Rattle.flow_tables.specs.Puts.{texts_counted};
 
 use flow_base::book::{Change, OpenActivity, Timer};
 use flow_base::effect::{Effect, effect_of};
@@ -202,13 +201,13 @@ fn changed_known(maps: &Maps, change: &Change) -> Option<KnownRun>
     }
 }
 
-/// What is known of the rows that a change is of, where so many texts are known.
-pub(crate) fn row_facts(maps: &Maps, texts: Option<u64>, change: &Change) -> RowFacts
-    ensures { (b : Book) → (t : Tables) → Serves maps.now b → Tells t b → words.OfCount texts (texts_counted t) → words.IsKnown result t }
+/// What is known of the rows that a change is of.
+pub(crate) fn row_facts(maps: &Maps, change: &Change) -> RowFacts
+    ensures { (b : Book) → (t : Tables) → Serves maps.now b → Tells t b → words.IsKnown result t }
 {
     RowFacts {
         run: changed_known(maps, change),
-        texts,
+        texts: maps.text_count(),
         runs: maps.run_count(),
     }
 }

@@ -54,6 +54,15 @@ impl<L: Listener> ToldRuns<L> {
         self.runs = no_runs();
         self.listener.begin(alloc);
     }
+
+    /// The book has so many texts.
+    pub(crate) fn count_texts(&mut self, count: u64)
+        ensures { (texts : List Bytes) → (rs : List ARun) → length texts ≡ count
+            → AreTold L.heard texts self.old.maps self.old.runs self.old.listener rs
+            → AreTold L.heard texts self.new.maps self.new.runs self.new.listener rs }
+    {
+        self.maps.count_texts(count);
+    }
 }
 
 impl<L: Listener> Onlooker for ToldRuns<L> {

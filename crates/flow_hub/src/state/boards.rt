@@ -3,8 +3,8 @@ ghost use Rattle.std.specs.Prelude.{◌≡◌, ◌⊎◌, false, true, ◌∷◌
 ghost use mathlib.Core.List.{IsPrefix};
 ghost use Rattle.flow_hub.specs.Halls.{posted_on, skipped, gave, rings, hears, looks};
 ghost use Rattle.flow_hub.specs.Knowing.{IsBefore, IsSamePart, answered_in, nothing};
-ghost use Rattle.flow_queues.specs.Posting.{HasKeys, IsOnce};
-ghost use Rattle.flow_hub.specs.Publishing.{HasPosted, HasSkipped};
+ghost use Rattle.flow_queues.specs.Posting.{IsOnce, apart_of, names_of};
+ghost use Rattle.flow_hub.specs.Publishing.{HasPosted, HasRest, HasSkipped, left_on};
 ghost use Rattle.flow_hub.specs.Ending.{HasCome, IsAwaited};
 ghost use Rattle.flow_hub.specs.Feeding.{HasGiven, IsIdle, IsRested, due_in};
 ghost use Rattle.flow_hub.specs.Seating.{seeing, IsGivers, IsPublishers, IsSubmitters};
@@ -19,28 +19,31 @@ use flow_base::fault::Fault;
 use flow_base::number::Moment;
 use flow_base::task::Task;
 use flow_commit::board::Board;
+use flow_queues::over::Over;
 use flow_queues::posting::{Keys, add_all, push_marked};
 use std::alloc::{AllocError, Global};
 
 impl<B: Room> State<B> {
-    /// Posts those of the board's tasks that weren't posted before, and joins their keys to those of all that was: whoever waits for a
-    /// board is to be woken. Where room for them is refused the board comes back, and nothing is posted.
+    /// Posts those of the board's tasks that weren't posted before and are of no run that is gone, and joins their keys to those of what
+    /// was: whoever waits for a board is to be woken. If room for them is refused the board comes back, and nothing is posted.
     pub(crate) fn post(
         &mut self,
         alloc: Global,
         seats: &HubTable<B>,
         me: Pass<B>,
         keys: &mut Keys,
+        gone: &Over,
         board: Board,
     ) -> (Pass<B>, Result<WakeByBoard, (Board, AllocError)>)
         requires seat { IsPublishers me }
-        requires keys { HasKeys keys.old me.was.posted }
-        ensures posted { OnOk result.1 (self.new ≡ posted_on self.old board.tasks
+        requires keys { HasRest keys.old gone.now me.was }
+        ensures posted { OnOk result.1 (self.new ≡ posted_on self.old (apart_of self.old.known.gone board.tasks)
             (record { due = board.due; open_runs = board.open_runs })) }
         ensures refused { IfErr result.1 (λ e. (e.0 ≡ board) × (self.new ≡ self.old)) }
-        ensures keys { HasKeys keys.new result.0.was.posted }
+        ensures keys { HasRest keys.new gone.now result.0.was }
         ensures seat { result.0 ≡ seeing true false 0 self.new.known }
-        ensures seen { OnOk result.1 (HasPosted me.was result.0.was board) }
+        ensures seen { OnOk result.1 (HasPosted me.was result.0.was (left_on me.was board)) }
+        ensures whole { OnOk result.1 (names_of me.was.gone board.tasks ≡ false → HasPosted me.was result.0.was board) }
         ensures part { OnErr result.1 (IsSamePart me.was result.0.was) }
         ensures once { IsOnce result.0.was.posted }
         ensures grows { IsBefore me.was result.0.was }
@@ -49,7 +52,7 @@ impl<B: Room> State<B> {
         if let Err(refused) = self.tasks.reserve(board.tasks().len()) {
             return (me, Err((board, refused)));
         }
-        let marks = match add_all(alloc, keys, board.tasks()) {
+        let marks = match add_all(alloc, keys, gone, board.tasks()) {
             Ok(marks) => marks,
             Err(refused) => return (me, Err((board, refused))),
         };

@@ -11,6 +11,7 @@ use Rattle.flow_machine.proofs.Sticking.{other_sides, stuck_here, unfit_here}
 use Rattle.flow_commit.specs.Boards.{since_changes}
 use Rattle.flow_commit.specs.Keeping.{rules as the_rules, commands_of}
 use Rattle.flow_commit.proofs.Looking.{were_decided}
+use Rattle.flow_commit.proofs.Shut.{shut_decided}
 use Rattle.flow_machine.proofs.Seating.{alike_on}
 use Rattle.flow_commit.proofs.deciding.decide_batch.Goals as goal
 
@@ -43,6 +44,9 @@ returns-in_err-push-clause-alike g c = alike_on c.args.seats.now c.loop-taken.se
 pub returns-in_err-reply-clause-alike : goal.returns-in_err-reply-clause-alike
 returns-in_err-reply-clause-alike g c = alike_on c.args.seats.now c.loop-taken.seats c.decide.new.seats c.loop-taken.invariant.alike c.decide.ensures.alike
 
+pub returns-in_err-add_shut-clause-alike : goal.returns-in_err-add_shut-clause-alike
+returns-in_err-add_shut-clause-alike g c = alike_on c.args.seats.now c.loop-taken.seats c.decide.new.seats c.loop-taken.invariant.alike c.decide.ensures.alike
+
 pub loop-taken-preserved : goal.loop-taken-preserved
 loop-taken-preserved g c =
     let book = g.V.View.book in
@@ -74,6 +78,9 @@ loop-taken-preserved g c =
           let decides = c.in_ok-reply.ensures.decides sure (was.fit (sure_at sure) fit) in
           let next : c.since_changes.result ≡ since_changes c.loop-taken.since changes = search rules in
           were_decided posted at new reply changes (outcome the_rules at taken.command) c.loop-taken.since c.since_changes.result decides next (was.since (sure_at sure) fit posted were);
+      shut = λ sure fit has.
+          let decides = c.in_ok-reply.ensures.decides sure (was.fit (sure_at sure) fit) in
+          shut_decided the_rules c.loop-taken.closed.items c.add_shut.new.list.items at new reply changes taken.command decides (search rules) (was.shut (sure_at sure) fit has);
       alike = alike_on c.args.seats.now c.loop-taken.seats c.decide.new.seats was.alike c.decide.ensures.alike;
       counted = omega (arith, many, shorter, counted);
       stuck = λ sure fit h. was.stuck (sure_at sure) fit (stuck_on the_rules at new left taken.command rest cut reply changes (c.in_ok-reply.ensures.decides sure (was.fit (sure_at sure) fit)) h);

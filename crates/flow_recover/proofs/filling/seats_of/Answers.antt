@@ -1,7 +1,7 @@
 use Rattle.std.proofs.Common.{◌<◌, arith, length, ap, sym, ◌∙◌}
 use Rattle.flow_cache.specs.Entries.{Kept}
 use Rattle.flow_check.specs.Language.{meaning_of}
-use Rattle.flow_recover.proofs.Filled.{all_reached, one_led}
+use Rattle.flow_recover.proofs.Filled.{all_reached, led_among, one_led}
 use Rattle.flow_recover.proofs.filling.seats_of.Goals as goal
 
 pub loop-i-preserved : goal.loop-i-preserved
@@ -12,4 +12,5 @@ loop-i-preserved c =
     )
 
 pub returns-clause-reached : goal.returns-clause-reached
-returns-clause-reached c b are = all_reached meaning_of b c.args.positions.now c.loop-i.seats c.settle.new.self c.loop-i.invariant.0 c.loop-i.invariant.1 c.settle.ensures.settled are
+returns-clause-reached c b all first are =
+    all_reached meaning_of b all c.loop-i.seats c.settle.new.self c.loop-i.invariant.0 (led_among c.args.positions.now all c.loop-i.seats.ahead.items first c.loop-i.invariant.1) c.settle.ensures.settled are

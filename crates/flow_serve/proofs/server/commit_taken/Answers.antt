@@ -1,4 +1,4 @@
-use Rattle.std.proofs.Common.{List, refl, sym, ap, ◌∙◌, ◌++◌, map, subst, append-nil}
+use Rattle.std.proofs.Common.{List, refl, sym, ap, ◌∙◌, ◌++◌, map, subst, take, append-nil}
 use Rattle.flow_base.specs.declared.code.Code.{Code}
 use Rattle.flow_base.specs.declared.code.Code.TheVariants as code
 use Rattle.flow_base.specs.declared.submission.Taken.{Taken}
@@ -11,12 +11,14 @@ use Rattle.flow_commit.specs.Committing.{IsFor, IsRefusedFor}
 use Rattle.flow_commit.specs.declared.outcome.Outcome.TheVariants as outcomes
 use Rattle.flow_engine.specs.declared.done.Done.TheVariants as dones
 use Rattle.flow_engine.proofs.GivingUp.{refused_done}
+use Rattle.flow_commit.proofs.Overs.{over_some}
+use Rattle.flow_serve.proofs.Posted.{lets_none}
 use Rattle.flow_serve.proofs.Serving.{gives_these, same_base}
 use Rattle.flow_serve.proofs.server.commit_taken.Goals as goal
 
 -- the receipts are those of the stamp, and answer what was taken
-pub publish-requires : goal.publish-requires
-publish-requires g c =
+pub publish-left-requires : goal.publish-left-requires
+publish-left-requires g c =
     let noted = c.in-Kept.ensures.noted in
     let old = account_of g.S.Store c.args.engine.now in
     let new = account_of g.S.Store c.commit.new.self in
@@ -59,7 +61,7 @@ returns-in-Kept-clause-answered g c =
       later = λ h. absurd (let clash = c.in-Kept.ensures.later h in cc);
       noted = (noted.0, noted.1, noted.2);
       log = noted.4;
-      codes = c.publish.ensures.published.refused ∙ sym (append-nil c.args.publisher.now.refused);
+      codes = c.publish-left.ensures.published.refused ∙ sym (append-nil c.args.publisher.now.refused);
       up = c.commit.ensures.up;
       own = c.commit.ensures.own;
       on = c.commit.ensures.goes_on;
@@ -133,3 +135,18 @@ returns-in-Halted-clause-answered g c =
       on = c.commit.ensures.goes_on;
       why = λ _. tt;
     }
+
+-- the runs that are let go of are over
+pub returns-in-Kept-clause-lets_go : goal.returns-in-Kept-clause-lets_go
+returns-in-Kept-clause-lets_go g c =
+    let told = c.publish-left.ensures.published in
+    record { more = take told.count c.in-Kept.stamp.closed; are = told.gone; over = over_some g.S.Store c.commit.new.self c.in-Kept.stamp.closed told.count c.in-Kept.ensures.closed }
+
+pub returns-in-NotApplied-clause-lets_go : goal.returns-in-NotApplied-clause-lets_go
+returns-in-NotApplied-clause-lets_go g c = lets_none g.S.Store c.commit.new.self c.args.publisher.now.gone c.refuse.new.self.gone c.refuse.ensures.refused.gone
+
+pub returns-in-Unknown-clause-lets_go : goal.returns-in-Unknown-clause-lets_go
+returns-in-Unknown-clause-lets_go g c = lets_none g.S.Store c.commit.new.self c.args.publisher.now.gone c.refuse-in-Unknown.new.self.gone c.refuse-in-Unknown.ensures.refused.gone
+
+pub returns-in-Halted-clause-lets_go : goal.returns-in-Halted-clause-lets_go
+returns-in-Halted-clause-lets_go g c = lets_none g.S.Store c.commit.new.self c.args.publisher.now.gone c.refuse-in-Halted.new.self.gone c.refuse-in-Halted.ensures.refused.gone

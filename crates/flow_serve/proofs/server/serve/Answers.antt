@@ -1,5 +1,6 @@
-use Rattle.std.proofs.Common.{inl, ◌++◌, refl}
+use Rattle.std.proofs.Common.{inl, ◌++◌, refl, subst, sym}
 use Rattle.flow_commit.specs.Keeping.{account_of}
+use Rattle.flow_commit.specs.Shutting.{AreOver}
 use Rattle.flow_hub.proofs.Growing.{before_trans}
 use Rattle.flow_hub.proofs.Sound.{takes_then}
 use Rattle.flow_serve.proofs.Posted.{later_self, posts_none, posts_still}
@@ -28,28 +29,28 @@ returns-in-Err-clause-served g c =
 
 -- what is turned away posts nothing
 pub returns-in-Err-serve_all-clause-posts : goal.returns-in-Err-serve_all-clause-posts
-returns-in-Err-serve_all-clause-posts g c =
+returns-in-Err-serve_all-clause-posts g c over =
     let new = c.serve_all.new.engine in
-    posts_still g.S.Store (g.C.Clock.tells c.args.clock.now) new new c.args.publisher.now.posted c.serve_all.new.publisher.posted c.turn_away.new.publisher.posted (later_self g.S.Store new) c.serve_all.ensures.posts c.turn_away.ensures.posted
+    posts_still g.S.Store (g.C.Clock.tells c.args.clock.now) new new c.args.publisher.now.posted c.serve_all.new.publisher.posted c.turn_away.new.publisher.posted (later_self g.S.Store new) (c.serve_all.ensures.posts over) c.turn_away.ensures.posted
 
 pub returns-in-Err-clause-posts : goal.returns-in-Err-clause-posts
-returns-in-Err-clause-posts g c = posts_none g.S.Store (g.C.Clock.tells c.args.clock.now) c.args.engine.now c.args.publisher.now.posted c.turn_away-in-Err.new.publisher.posted c.turn_away-in-Err.ensures.posted
+returns-in-Err-clause-posts g c over = posts_none g.S.Store (g.C.Clock.tells c.args.clock.now) c.args.engine.now c.args.publisher.now.posted c.turn_away-in-Err.new.publisher.posted c.turn_away-in-Err.ensures.posted
 
 -- what is turned away has no board
 pub returns-in-Err-serve_all-clause-boards : goal.returns-in-Err-serve_all-clause-boards
-returns-in-Err-serve_all-clause-boards g c =
+returns-in-Err-serve_all-clause-boards g c over =
     let t = c.turn_away.ensures.turned in (
       t.0,
       c.serve_all.new.publisher.skipped,
       boarded_behind g.S.Store (g.C.Clock.tells c.args.clock.now) c.args.engine.now c.args.publisher.now.refused
           c.args.publisher.now.posted c.args.publisher.now.skipped c.serve_all.new.engine c.serve_all.new.publisher.refused
           c.turn_away.new.publisher.refused c.serve_all.new.publisher.posted c.turn_away.new.publisher.posted
-          c.serve_all.new.publisher.skipped t.0 t.1 c.turn_away.ensures.posted c.in-Err-serve_all.ensures.boards,
+          c.serve_all.new.publisher.skipped t.0 t.1 c.turn_away.ensures.posted (c.in-Err-serve_all.ensures.boards over),
       c.turn_away.ensures.skipped,
     )
 
 pub returns-in-Err-clause-boards : goal.returns-in-Err-clause-boards
-returns-in-Err-clause-boards g c =
+returns-in-Err-clause-boards g c over =
     let t = c.turn_away-in-Err.ensures.turned in (
       t.0,
       c.args.publisher.now.skipped,
@@ -98,3 +99,10 @@ returns-in-Err-serve_all-clause-whole g c =
 
 pub returns-in-Err-clause-whole : goal.returns-in-Err-clause-whole
 returns-in-Err-clause-whole g c = c.turn_away-in-Err.ensures.whole
+
+-- what is turned away lets go of nothing
+pub returns-in-Err-serve_all-clause-over : goal.returns-in-Err-serve_all-clause-over
+returns-in-Err-serve_all-clause-over g c over = subst (AreOver g.S.Store c.serve_all.new.engine) (sym c.turn_away.ensures.gone) (c.serve_all.ensures.over over)
+
+pub returns-in-Err-clause-over : goal.returns-in-Err-clause-over
+returns-in-Err-clause-over g c over = subst (AreOver g.S.Store c.args.engine.now) (sym c.turn_away-in-Err.ensures.gone) over

@@ -1,13 +1,15 @@
-use Rattle.std.proofs.Common.{rules, ◌≡◌, ◌≤◌, true, suc, List, [], ◌∷◌, ◌++◌, length, sym, ap, ◌∙◌, subst, true≢false}
+use Rattle.std.proofs.Common.{rules, ◌≡◌, ◌≤◌, ℕ, true, suc, List, [], ◌∷◌, ◌++◌, length, sym, ap, ◌∙◌, subst, true≢false}
 use Rattle.std.proofs.lemmas.Result.{err_from_is_err_and}
 use Rattle.flow_base.specs.declared.submission.Taken.{Taken}
 use Rattle.flow_commit.specs.Keeping.{account_of}
+use Rattle.flow_commit.specs.Shutting.{AreOver}
 use Rattle.flow_queues.specs.declared.refused.Refused.{Refused}
 use Rattle.flow_hub.specs.Knowing.{IsOver}
 use Rattle.flow_hub.proofs.Growing.{before_trans}
 use Rattle.flow_hub.proofs.Sound.{takes_none, takes_then}
 use Rattle.flow_serve.specs.Serving.{GivesUp, HasAnswered, IsBatch, StopsAt}
-use Rattle.flow_serve.proofs.Posted.{answered_later, known_still, later_self, posts_still, posts_then, still_later}
+use Rattle.flow_serve.specs.Posting.{LetsGo, Posts}
+use Rattle.flow_serve.proofs.Posted.{answered_later, known_still, later_self, over_between, over_gone, posts_still, posts_then, still_later}
 use Rattle.flow_serve.proofs.Served.{Served, boarded_done, boarded_first, boarded_last, boarded_more, has_served, served_more}
 use Rattle.flow_engine.proofs.Boarding.{follows_then}
 use Rattle.flow_serve.proofs.Serving.{gives_none, gives_then, stops_behind, together_still}
@@ -47,7 +49,7 @@ returns-in_err-commit_taken-clause-served g c =
     t.served c.of.result (subst IsBatch (sym c.of.ensures) some) one)
 
 pub returns-in_err-commit_taken-clause-boards : goal.returns-in_err-commit_taken-clause-boards
-returns-in_err-commit_taken-clause-boards g c =
+returns-in_err-commit_taken-clause-boards g c over =
     let old = c.args.engine.now in
     let mid = c.loop.engine in
     let new = c.commit_taken.new.engine in
@@ -60,11 +62,11 @@ returns-in_err-commit_taken-clause-boards g c =
     let hand = c.take.new.into.items in
     let some : (1 ≤ length hand) × (length hand ≤ 64) = search rules in
     let p = err_from_is_err_and c.from_residual.result c.from_residual.ensures.1 in
-    rw (p.1) (boarded_last g.S.Store tells old was first c.args.publisher.now.skipped mid new new then now.refused now.refused
+    rw (p.1) (boarded_last g.S.Store tells old was first c.args.publisher.now.skipped (AreOver g.S.Store c.args.engine.now c.args.publisher.now.gone) mid new new then now.refused now.refused
     c.loop.publisher.posted c.loop.publisher.skipped c.of.result
     (subst IsBatch (sym c.of.ensures) some) c.loop.invariant.turned one c.commit_taken.ensures.found
     now.posted now.skipped (c.commit_taken.ensures.posted ∙ c.take.ensures.taken.posted)
-    (c.commit_taken.ensures.skipped ∙ c.take.ensures.taken.skipped))
+    (c.commit_taken.ensures.skipped ∙ c.take.ensures.taken.skipped) over)
 
 -- the hub is closed, and nothing was taken any more
 pub returns-then-not-take-clause-served : goal.returns-then-not-take-clause-served
@@ -76,13 +78,13 @@ returns-then-not-take-clause-served g c =
     has_served g.S.Store c.args.engine.now c.loop.engine was c.take.new.self.refused t.count served
 
 pub returns-then-not-take-clause-boards : goal.returns-then-not-take-clause-boards
-returns-then-not-take-clause-boards g c =
+returns-then-not-take-clause-boards g c over =
     let first = c.args.publisher.now.posted in
     let tells = g.C.Clock.tells c.args.clock.now in
-    boarded_done g.S.Store tells c.args.engine.now c.args.publisher.now.refused first c.args.publisher.now.skipped c.loop.engine
+    boarded_done g.S.Store tells c.args.engine.now c.args.publisher.now.refused first c.args.publisher.now.skipped (AreOver g.S.Store c.args.engine.now c.args.publisher.now.gone) c.loop.engine
     c.loop.publisher.refused c.take.new.self.refused c.loop.publisher.posted c.take.new.self.posted
     c.loop.publisher.skipped c.take.new.self.skipped
-    c.take.ensures.taken.refused c.take.ensures.taken.posted c.take.ensures.taken.skipped c.loop.invariant.turned
+    c.take.ensures.taken.refused c.take.ensures.taken.posted c.take.ensures.taken.skipped c.loop.invariant.turned over
 
 pub returns-in_err-commit_taken-clause-grows : goal.returns-in_err-commit_taken-clause-grows
 returns-in_err-commit_taken-clause-grows g c =
@@ -96,10 +98,11 @@ loop-init g c =
     record {
       together = b.together;
       known = b.known;
+      over = λ sure. over_between g.S.Store c.args.engine.now c.post_board.new.engine c.args.publisher.now.gone c.post_board.new.publisher.gone b.still b.gone sure;
       halted = b.still.halted;
       still = λ h. (b.still.nothing (sym b.still.halted ∙ h), b.refused);
       turned = boarded_first g.S.Store (g.C.Clock.tells c.args.clock.now) c.args.engine.now c.args.publisher.now.refused
-          c.args.publisher.now.posted c.args.publisher.now.skipped c.post_board.new.engine c.post_board.new.publisher.refused
+          c.args.publisher.now.posted c.args.publisher.now.skipped (AreOver g.S.Store c.args.engine.now c.args.publisher.now.gone) c.post_board.new.engine c.post_board.new.publisher.refused
           c.post_board.new.publisher.posted c.post_board.new.publisher.skipped b.still b.refused b.turn;
       whole = takes_none c.args.most c.args.publisher.now c.post_board.new.publisher b.takes;
       gives = gives_none c.args.publisher.now.refused c.post_board.new.publisher.refused b.refused;
@@ -131,26 +134,29 @@ loop-preserved g c =
     let tells = g.C.Clock.tells c.args.clock.now in
     let posted = c.args.publisher.now.posted in
     let later = answered_later g.S.Store c.loop.engine kept c.loop.publisher.refused told.refused c.of.result one c.commit_taken.ensures.found in
-    let committed = posts_still g.S.Store tells c.loop.engine kept posted c.loop.publisher.posted told.posted later i.posts (c.commit_taken.ensures.posted ∙ c.take.ensures.taken.posted) in
+    let Sure : Type 0 = AreOver g.S.Store c.args.engine.now c.args.publisher.now.gone in
+    let over : Sure → AreOver g.S.Store kept told.gone = λ sure. over_gone g.S.Store c.loop.engine kept mid.gone told.gone later c.commit_taken.ensures.lets_go (subst (AreOver g.S.Store c.loop.engine) (sym c.take.ensures.taken.gone) (i.over sure)) in
+    let committed : Sure → Posts g.S.Store tells kept posted told.posted = λ sure. posts_still g.S.Store tells c.loop.engine kept posted c.loop.publisher.posted told.posted later (i.posts sure) (c.commit_taken.ensures.posted ∙ c.take.ensures.taken.posted) in
     let gives = gives_then was mid.refused told.refused (subst (GivesUp was) (sym c.take.ensures.taken.refused) i.gives) c.in_ok-commit_taken.ensures.given_up in
     record {
       together = b.together;
       known = b.known;
+      over = λ sure. over_between g.S.Store kept c.post_board-in-loop.new.engine told.gone c.post_board-in-loop.new.publisher.gone b.still b.gone (over sure);
       halted = b.still.halted ∙ (go.1 ∙ (sym go.0 ∙ i.halted));
       still = λ h. absurd (true≢false (sym h ∙ (b.still.halted ∙ go.1)));
       gives = subst (GivesUp was) (sym b.refused) gives;
       whole = takes_then c.args.most c.args.publisher.now mid c.post_board-in-loop.new.publisher
           (takes_then c.args.most c.args.publisher.now c.loop.publisher mid i.whole c.take.ensures.whole)
           (takes_none c.args.most mid c.post_board-in-loop.new.publisher (b.takes ∙ c.commit_taken.ensures.takes));
-      turned = boarded_more g.S.Store tells old was posted c.args.publisher.now.skipped c.loop.engine kept c.post_board-in-loop.new.engine
+      turned = boarded_more g.S.Store tells old was posted c.args.publisher.now.skipped (AreOver g.S.Store c.args.engine.now c.args.publisher.now.gone) c.loop.engine kept c.post_board-in-loop.new.engine
           c.loop.publisher.refused told.refused c.post_board-in-loop.new.publisher.refused c.loop.publisher.posted
           c.loop.publisher.skipped c.of.result
           (subst IsBatch (sym c.of.ensures) some) i.turned one c.commit_taken.ensures.found told.posted
           c.post_board-in-loop.new.publisher.posted told.skipped c.post_board-in-loop.new.publisher.skipped
           (c.commit_taken.ensures.posted ∙ c.take.ensures.taken.posted) (c.commit_taken.ensures.skipped ∙ c.take.ensures.taken.skipped)
-          (go.1 ∙ (sym go.0 ∙ i.halted)) b.still b.refused b.turn;
-      posts = posts_then g.S.Store tells kept c.post_board-in-loop.new.engine posted told.posted c.post_board-in-loop.new.publisher.posted
-          (still_later g.S.Store kept c.post_board-in-loop.new.engine b.still) committed b.posts;
+          (go.1 ∙ (sym go.0 ∙ i.halted)) b.still b.refused (λ sure. b.turn (over sure));
+      posts = λ sure. posts_then g.S.Store tells kept c.post_board-in-loop.new.engine posted told.posted c.post_board-in-loop.new.publisher.posted
+          (still_later g.S.Store kept c.post_board-in-loop.new.engine b.still) (committed sure) (b.posts (over sure));
       found = b.still.found ∙ (c.commit_taken.ensures.found ∙ i.found);
       follows = follows_then g.S.Store c.args.engine.now kept c.post_board-in-loop.new.engine (follows_then g.S.Store c.args.engine.now c.loop.engine kept i.follows c.commit_taken.ensures.follows) b.still.follows;
       grows =
@@ -166,19 +172,19 @@ loop-preserved g c =
 
 -- what is taken and answered posts nothing
 pub returns-then-not-take-clause-posts : goal.returns-then-not-take-clause-posts
-returns-then-not-take-clause-posts g c =
+returns-then-not-take-clause-posts g c over =
     let mid = c.loop.engine in
-    posts_still g.S.Store (g.C.Clock.tells c.args.clock.now) mid mid c.args.publisher.now.posted c.loop.publisher.posted c.take.new.self.posted (later_self g.S.Store mid) c.loop.invariant.posts c.take.ensures.taken.posted
+    posts_still g.S.Store (g.C.Clock.tells c.args.clock.now) mid mid c.args.publisher.now.posted c.loop.publisher.posted c.take.new.self.posted (later_self g.S.Store mid) (c.loop.invariant.posts over) c.take.ensures.taken.posted
 
 pub returns-in_err-commit_taken-clause-posts : goal.returns-in_err-commit_taken-clause-posts
-returns-in_err-commit_taken-clause-posts g c =
+returns-in_err-commit_taken-clause-posts g c over =
     let mid = c.loop.engine in
     let new = c.commit_taken.new.engine in
     let then = c.loop.publisher.refused in
     let now = c.commit_taken.new.publisher in
     let one = subst (λ (rs : List Refused). HasAnswered g.S.Store mid new rs now.refused c.of.result) c.take.ensures.taken.refused c.commit_taken.ensures.answered in
     let later = answered_later g.S.Store mid new then now.refused c.of.result one c.commit_taken.ensures.found in
-    posts_still g.S.Store (g.C.Clock.tells c.args.clock.now) mid new c.args.publisher.now.posted c.loop.publisher.posted now.posted later c.loop.invariant.posts (c.commit_taken.ensures.posted ∙ c.take.ensures.taken.posted)
+    posts_still g.S.Store (g.C.Clock.tells c.args.clock.now) mid new c.args.publisher.now.posted c.loop.publisher.posted now.posted later (c.loop.invariant.posts over) (c.commit_taken.ensures.posted ∙ c.take.ensures.taken.posted)
 
 -- nothing here closes the hub
 pub returns-then-not-take-clause-ended : goal.returns-then-not-take-clause-ended
@@ -210,7 +216,11 @@ post_board-requires-in-loop-clause-together g c = c.commit_taken.ensures.togethe
 pub post_board-requires-in-loop-clause-known : goal.post_board-requires-in-loop-clause-known
 post_board-requires-in-loop-clause-known g c =
     let told = c.commit_taken.new.publisher in
-    λ _. known_still c.loop.engine c.commit_taken.new.engine c.loop.publisher.posted told.posted c.commit_taken.ensures.still
+    let kept = c.commit_taken.new.engine in
+    let one = subst (λ (rs : List Refused). HasAnswered g.S.Store c.loop.engine kept rs told.refused c.of.result) c.take.ensures.taken.refused c.commit_taken.ensures.answered in
+    let later = answered_later g.S.Store c.loop.engine kept c.loop.publisher.refused told.refused c.of.result one c.commit_taken.ensures.found in
+    λ _. known_still g.S.Store c.loop.engine kept c.loop.publisher.posted told.posted c.loop.publisher.gone told.gone later
+    (subst (λ (runs : List ℕ). LetsGo g.S.Store kept runs told.gone) c.take.ensures.taken.gone c.commit_taken.ensures.lets_go) c.commit_taken.ensures.still
     (c.commit_taken.ensures.posted ∙ c.take.ensures.taken.posted) (λ _. c.in_ok-commit_taken.ensures.goes_on.0) c.loop.invariant.known
 
 pub returns-then-not-take-clause-together : goal.returns-then-not-take-clause-together
@@ -258,3 +268,15 @@ returns-in_err-commit_taken-clause-whole g c =
     takes_then c.args.most c.args.publisher.now mid now
     (takes_then c.args.most c.args.publisher.now c.loop.publisher mid c.loop.invariant.whole c.take.ensures.whole)
     (takes_none c.args.most mid now c.commit_taken.ensures.takes)
+
+-- what is gone is over
+pub returns-then-not-take-clause-over : goal.returns-then-not-take-clause-over
+returns-then-not-take-clause-over g c over = subst (AreOver g.S.Store c.loop.engine) (sym c.take.ensures.taken.gone) (c.loop.invariant.over over)
+
+pub returns-in_err-commit_taken-clause-over : goal.returns-in_err-commit_taken-clause-over
+returns-in_err-commit_taken-clause-over g c over =
+    let kept = c.commit_taken.new.engine in
+    let told = c.commit_taken.new.publisher in
+    let one = subst (λ (rs : List Refused). HasAnswered g.S.Store c.loop.engine kept rs told.refused c.of.result) c.take.ensures.taken.refused c.commit_taken.ensures.answered in
+    let later = answered_later g.S.Store c.loop.engine kept c.loop.publisher.refused told.refused c.of.result one c.commit_taken.ensures.found in
+    over_gone g.S.Store c.loop.engine kept c.take.new.self.gone told.gone later c.commit_taken.ensures.lets_go (subst (AreOver g.S.Store c.loop.engine) (sym c.take.ensures.taken.gone) (c.loop.invariant.over over))

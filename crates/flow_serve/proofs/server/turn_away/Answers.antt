@@ -16,6 +16,7 @@ loop-init g c =
       none = e.held ∙ c.requires.none;
       history = e.history;
       last = e.last;
+      gone = e.gone;
       posted = e.posted;
       skipped = skips_none c.args.fault.now was.skipped c.close.new.self.skipped e.skipped;
       whole = takes_none c.args.most was c.close.new.self e.takes;
@@ -40,6 +41,7 @@ loop-preserved g c =
       none = told.held;
       history = told.history ∙ (taken.history ∙ (rest.history ∙ i.history));
       last = told.last ∙ (taken.last ∙ (rest.last ∙ i.last));
+      gone = told.gone ∙ (taken.gone ∙ (rest.gone ∙ i.gone));
       posted = told.posted ∙ (taken.posted ∙ (c.skip.ensures.skipped.posted ∙ i.posted));
       skipped = skips_more c.args.fault.now c.args.publisher.now.skipped c.loop.publisher.skipped new.skipped i.skipped
           (told.skipped ∙ (taken.skipped ∙ c.skip.ensures.skipped.skipped));
@@ -60,6 +62,9 @@ pub returns-then-not-take-clause-skipped : goal.returns-then-not-take-clause-ski
 returns-then-not-take-clause-skipped g c =
     skips_more c.args.fault.now c.args.publisher.now.skipped c.loop.publisher.skipped c.take.new.self.skipped c.loop.invariant.skipped
     (c.take.ensures.taken.skipped ∙ c.skip.ensures.skipped.skipped)
+
+pub returns-then-not-take-clause-gone : goal.returns-then-not-take-clause-gone
+returns-then-not-take-clause-gone g c = c.take.ensures.taken.gone ∙ (c.skip.ensures.skipped.rest.gone ∙ c.loop.invariant.gone)
 
 pub returns-then-not-take-clause-whole : goal.returns-then-not-take-clause-whole
 returns-then-not-take-clause-whole g c =

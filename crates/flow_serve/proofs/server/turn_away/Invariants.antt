@@ -13,6 +13,7 @@ invariant-loop g l =
       none : l.publisher.held ≡ [];
       history : l.publisher.history ≡ l.fn.publisher.history;
       last : l.publisher.last ≡ l.fn.publisher.last;
+      gone : l.publisher.gone ≡ l.fn.publisher.gone;
       posted : l.publisher.posted ≡ l.fn.publisher.posted;
       skipped : SkipsFor l.fn.fault l.fn.publisher.skipped l.publisher.skipped;
       whole : TakesAll l.fn.most l.fn.publisher l.publisher;

@@ -1,6 +1,6 @@
 use Rattle.std.proofs.Common.{[], ap, ◌∙◌}
 use Rattle.flow_hub.specs.declared.known.HubFacts.{HubFacts}
-use Rattle.flow_serve.proofs.Living.{together_new}
+use Rattle.flow_serve.proofs.Living.{over_new, together_new}
 use Rattle.flow_work.proofs.Served.{ends_serving, served_all, served_on}
 use Rattle.flow_work.proofs.running.serve_new.Goals as goal
 
@@ -21,13 +21,13 @@ returns-in-Err-clause-ends g c =
 pub returns-in-Ok-clause-hub : goal.returns-in-Ok-clause-hub
 returns-in-Ok-clause-hub g c =
     served_on g.S.Store (g.C.Clock.tells c.args.clock.now) c.args.engine.now c.serve.new.engine c.args.publisher.now c.serve.new.publisher []
-    c.requires.nothing c.serve.ensures.together c.in-Ok.ensures.served c.serve.ensures.posts
+    c.requires.nothing c.serve.ensures.together c.in-Ok.ensures.served (c.serve.ensures.posts (over_new g.S.Store c.args.engine.now c.args.publisher.now c.requires.nothing))
 
 pub returns-in-Err-clause-hub : goal.returns-in-Err-clause-hub
 returns-in-Err-clause-hub g c =
     let h = c.in-Err.ensures.served in
     served_on g.S.Store (g.C.Clock.tells c.args.clock.now) c.args.engine.now c.serve.new.engine c.args.publisher.now c.serve.new.publisher h.0
-    c.requires.nothing c.serve.ensures.together h.1 c.serve.ensures.posts
+    c.requires.nothing c.serve.ensures.together h.1 (c.serve.ensures.posts (over_new g.S.Store c.args.engine.now c.args.publisher.now c.requires.nothing))
 
 pub returns-in-Ok-clause-goes_on : goal.returns-in-Ok-clause-goes_on
 returns-in-Ok-clause-goes_on g c = c.in-Ok.ensures.goes_on

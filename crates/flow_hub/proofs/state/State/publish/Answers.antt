@@ -1,5 +1,6 @@
-use Rattle.std.proofs.Common.{rules, ◌≡◌, ◌+◌, ◌++◌, length, refl, ap, sym, ◌∙◌, arith, length-append, vec_len}
+use Rattle.std.proofs.Common.{rules, ◌≡◌, ◌+◌, ◌++◌, ℕ, List, take, length, refl, ap, sym, ◌∙◌, arith, length-append, vec_len}
 use Rattle.flow_commit.specs.Committing.{taken_of}
+use Rattle.flow_hub.specs.declared.known.HubFacts.{HubFacts}
 use Rattle.flow_hub.specs.Knowing.{IsSamePart}
 use Rattle.flow_hub.specs.Publishing.{Answers}
 use Rattle.flow_hub.proofs.Growing.{before_self, publishes_on, grows_by}
@@ -19,7 +20,7 @@ invariant_of-self g c =
     let len : vec_len c.push_receipts.new.answered ≡ vec_len i.answered + length rs = search rules in
     let held : length i.known.held ≡ length rs = sym (ap length asked.asked) ∙ length-mapped taken_of rs in
     let longer : length (i.known.history ++ rs) ≡ length i.known.history + length rs = length-append i.known.history rs in (
-      rw (c.publish.ensures, answered) (publishes _ c.args.stamp rs c.self.invariant.0 asked c.spend.ensures.lawful),
+      rw (c.publish.ensures, answered) (publishes _ c.args.stamp c.args.count rs c.self.invariant.0 asked c.spend.ensures.lawful),
       search rules,
       rw c.publish.ensures (omega (arith, c.self.invariant.2, count, longer)),
       search rules,
@@ -44,7 +45,7 @@ tell-me-requires-clause-grows g c =
     let i = c.self.inside in
     let same : IsSamePart c.args.me.was i.known = search rules in
     let asked : Answers i.known c.args.stamp c.args.receipts.items = same_answers c.args.me.was i.known c.args.stamp c.args.receipts.items same c.requires.answers in
-    grows_by c.tell-seen.new.keeper.all i.known _ c.publish.new.self (all_of c.tell-seen.new.keeper i.known c.tell-seen.ensures.keeper) c.publish.ensures (publishes_on i.known _ _ asked.over)
+    grows_by c.tell-seen.new.keeper.all i.known _ c.publish.new.self (all_of c.tell-seen.new.keeper i.known c.tell-seen.ensures.keeper) c.publish.ensures (publishes_on i.known c.args.stamp c.args.count c.args.receipts.items asked.over)
 
 pub returns-clause-legal : goal.returns-clause-legal
 returns-clause-legal g c =
@@ -53,7 +54,7 @@ returns-clause-legal g c =
     let same : IsSamePart c.args.me.was i.known = search rules in
     let asked : Answers i.known c.args.stamp rs = same_answers c.args.me.was i.known c.args.stamp rs same c.requires.answers in
     let was = was_of c.tell-me.result _ _ c.publish.new.self c.tell-me.ensures.told ∙ c.publish.ensures in
-    history_by c.tell-me.result.was _ was (published_history _ c.args.stamp rs c.self.invariant.0 asked c.spend.ensures.lawful)
+    history_by c.tell-me.result.was _ was (published_history _ c.args.stamp c.args.count rs c.self.invariant.0 asked c.spend.ensures.lawful)
 
 pub returns-clause-seen : goal.returns-clause-seen
 returns-clause-seen g c =
@@ -61,4 +62,10 @@ returns-clause-seen g c =
     let rs = c.args.receipts.items in
     let same : IsSamePart c.args.me.was i.known = search rules in
     let was = was_of c.tell-me.result _ _ c.publish.new.self c.tell-me.ensures.told ∙ c.publish.ensures in
-    published_by c.args.me.was c.tell-me.result.was _ c.args.stamp rs was (has_published i.known c.args.me.was c.args.stamp rs same c.requires.answers)
+    published_by c.args.me.was c.tell-me.result.was _ c.args.stamp rs was (has_published i.known c.args.me.was c.args.stamp c.args.count rs same c.requires.answers)
+
+pub returns-clause-gone : goal.returns-clause-gone
+returns-clause-gone g c =
+    let same : IsSamePart c.args.me.was c.self.inside.known = search rules in
+    let was = was_of c.tell-me.result _ _ c.publish.new.self c.tell-me.ensures.told ∙ c.publish.ensures in
+    ap (λ (k : HubFacts). k.gone) was ∙ ap (λ (runs : List ℕ). runs ++ take c.args.count c.args.stamp.closed) (sym same.gone)

@@ -1,10 +1,9 @@
 use Rattle.flow_maps.proofs.Names.{Book, changed, KnowsFacts, IsUndo}
 use Rattle.flow_maps.proofs.Serving.{some_weaker}
-use Rattle.flow_maps.proofs.Staying.{texts_stay}
 use Rattle.flow_maps.proofs.maps.Maps.note.Goals as goal
 
 pub returns-clause-serves : goal.returns-clause-serves
-returns-clause-serves c b h = record { facts = c.note-undo.ensures.serves b h.facts; texts = texts_stay c.args.self.now.texts b c.args.change.now h.texts }
+returns-clause-serves c b h = record { facts = c.note-undo.ensures.serves b h.facts; texts = c.follow.ensures b h.texts }
 
 pub returns-clause-goes_back : goal.returns-clause-goes_back
 returns-clause-goes_back c k b h back =
