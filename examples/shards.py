@@ -61,10 +61,15 @@ def made(folder, count):
     """The files, of which those that were added are made. How many there are stands in shards.txt, so that one that got lost isn't taken
     for one that was added."""
     note, paths, before = os.path.join(folder, "shards.txt"), [os.path.join(folder, f"shard-{it + 1}.db") for it in range(count)], 0
+    if os.path.exists(folder) and not os.path.isdir(folder):
+        end(f"{folder} is no folder", 2)
     os.makedirs(folder, exist_ok=True)
     if os.path.exists(note):
-        with open(note, encoding="utf-8") as file:
-            before = int(file.read() or 0)
+        with open(note, encoding="utf-8", errors="replace") as file:
+            noted = file.read().strip() or "0"
+        if not noted.isdecimal():
+            end(f"{note} should hold a number alone: how many files there are", 2)
+        before = int(noted)
     for path in paths[:before]:
         if not os.path.exists(path):
             end(f"{path} isn't there", 2)
@@ -241,7 +246,7 @@ class Shards:
         self.lines.extend(lines)
         self.is_over = not piece
         if self.is_over and self.rest:
-            self.lines.append(b"")  # what ends in mid-line is no command
+            self.lines.append(self.rest)  # the last line needs no line feed; one that is cut off is no command
 
     def read_from(self, shard):
         piece = shard.child.stdout.read(PIECE)

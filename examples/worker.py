@@ -3,7 +3,8 @@
 
 It starts `flow serve DB`, which prints a line for each task, and N processes, each of which runs one activity at a time: whoever is idle
 gets the next one. Kill any of them at any moment: `flow` is started again, and so is a process, and another one gets its task. Kill this
-program itself and start it again: each order goes on where it was. With --files DB is a folder of so many files, by `shards.py`."""
+program itself and start it again: each order goes on where it was. With --files DB is a folder of so many files, by `shards.py`. $FLOW
+names the program, else it is ./flow."""
 import argparse
 import collections
 import contextlib
@@ -15,7 +16,7 @@ import sys
 import threading
 import time
 
-FLOW = "./flow"
+FLOW = os.environ.get("FLOW", "./flow")
 HERE = os.path.dirname(os.path.realpath(__file__))
 TEXT, SHARDS = os.path.join(HERE, "refund.flow"), os.path.join(HERE, "shards.py")
 
@@ -82,6 +83,7 @@ class Flow:
         self.tasks = queue.Queue()
         self.held = set()  # the tasks in hand: each waits, is run, or its report has no reply
         self.known = set()  # those which were in hand when this life began: it may print them once more
+        self.unknown = set()  # the activities that nobody has here
         self.reported = threading.Event()
         self.child = started(*self.words)
         self.reader = threading.Thread(target=self.read, daemon=True)
@@ -98,10 +100,13 @@ class Flow:
             self.write(line)
 
     def ask(self, do, **keys):
-        """Sends a command, and returns its reply."""
+        """Sends a command, and returns its reply. One that is refused ends this program, and says why."""
         asker = queue.Queue()
         self.send({"do": do, **keys}, asker)
-        return asker.get()
+        told = asker.get()
+        if told["reply"] == "refused":
+            sys.exit(f"{do} is refused: {json.dumps(told)}")
+        return told
 
     def read(self):
         while True:
@@ -111,7 +116,7 @@ class Flow:
                     self.hear(json.loads(line))
             status = self.child.wait()
             self.in_vain += status > 0  # a fault, whose number is on standard error; an earlier `flow` may have the file a moment longer
-            if self.in_vain > 50:
+            if status == 2 or self.in_vain > 50:  # the words are wrong, or it begins in vain
                 os._exit(status)
             time.sleep(0.1)
             with self.lock:
@@ -148,6 +153,9 @@ class Flow:
         elif task["activity"] in ACTIVITIES:
             self.held.add(key_of(task))
             self.tasks.put(task)
+        elif task["activity"] not in self.unknown:
+            self.unknown.add(task["activity"])
+            print(f"no activity is called {task['activity']}: its tasks stay open", file=sys.stderr)
 
     def work(self):
         """Hands tasks to a process, one at a time. If that ends with a task in hand, another one gets it."""
@@ -181,6 +189,8 @@ def main():
     words.add_argument("--workers", type=int, default=1)
     words.add_argument("--files", type=int, default=0)
     words = words.parse_args()
+    if words.workers < 1 or words.files < 0:
+        sys.exit("worker.py: --workers takes 1 or more, --files 0 or more")
     flow = Flow(words.base, words.workers, words.files)
     with open(TEXT, encoding="utf-8") as file:
         text = flow.ask("register", src=file.read())["text"]

@@ -1,6 +1,6 @@
 #!/usr/bin/env bash
 # Pays an order, with activities in bash: worker.sh DB ORDER. It needs jq. It reads a line, does what it says, writes a line, and reads on.
-# Kill it or its `flow` at any moment, and start it again: the order goes on where it was.
+# Kill it or its `flow` at any moment, and start it again: the order goes on where it was. $FLOW names the program, else it is ./flow.
 set -eu
 
 # What the workflow calls: each prints its value as JSON. One that ends with another status than 0 has failed, and is tried again as the
@@ -9,9 +9,10 @@ charge() { jq -n --arg order "$1" '"payment " + $order'; }
 ship() { jq -n --arg order "$1" '"parcel " + $order'; }
 refund() { jq -n --argjson amount "$2" '$amount'; }
 
+[[ $# = 2 && $2 =~ ^[0-9]+$ ]] || { echo "usage: worker.sh DB ORDER, a number" >&2 && exit 2; }
 base=$1 order=$2 text=$(dirname "$0")/refund.flow
 trap '' PIPE # a `flow` that has ended is seen by the loop below
-coproc ./flow serve "$base"
+coproc "${FLOW:-./flow}" serve "$base"
 child=$!
 exec {from}<&"${COPROC[0]}" {to}>&"${COPROC[1]}"
 eval "exec ${COPROC[0]}<&- ${COPROC[1]}>&-"
@@ -28,7 +29,10 @@ make() { jq -c "${@:3}" "$2" <<<"$1"; }
 run() {
     local words value report
     eval "words=($(make "$1" '[.activity] + .args | @sh' -r))"
-    case ${words[0]} in charge | ship | refund) ;; *) return ;; esac
+    case ${words[0]} in
+        charge | ship | refund) ;;
+        *) echo "no activity is called ${words[0]}: its task stays open" >&2 && return ;;
+    esac
     value=$("${words[@]}") &&
         report=$(make "$1" '{do: "complete", run, event, attempt, at: 0, value: $value}' --argjson value "$value") ||
         report=$(make "$1" '{do: "fail", run, event, attempt, at: 0, reason: $reason}' --arg reason "ended with $?")
@@ -40,6 +44,7 @@ run() {
 hear() {
     case $(make "$1" '"\(.reply) \(.code)"' -r):$(make "$2" .do -r) in
         "not applied"*) sleep 1 && send "$2" ;;
+        "refused "*:register | "refused "*:start) echo "$(make "$2" .do -r) is refused: $1" >&2 && exit 1 ;;
         *E02:complete | *E66:complete) send "$(make "$2" '{do: "fail", run, event, attempt, at, reason: "wrong type"}')" ;;
         *:register) send "$(make "$1" '{do: "start", text, flow: $name, req: $name, args: [$order, 500], at: 0}' \
             --arg name "order-$order" --argjson order "$order")" ;;

@@ -109,15 +109,16 @@ def copied(path, folder):
     return copy
 
 
-def is_verified(copy, program):
-    """Has the program judge a store. It refuses a damaged one, and answers False if the program is one that has no `verify`."""
+def is_verified(copy, path, program):
+    """Has the program judge the copy of a store. It refuses a damaged one, and answers False if the program is one that has no `verify`."""
     ended = subprocess.run([program, "verify", copy], stdin=subprocess.DEVNULL, capture_output=True, text=True, errors="replace")
     if ended.returncode == 0:
         return True
-    fault = FAULT.search(ended.stderr)
+    said = ended.stderr.replace(copy, path)
+    fault = FAULT.search(said)
     if fault and fault[0].startswith("flow: E97"):
         return False
-    raise Refused(fault[0].strip() if fault else f"flow verify ended with {ended.returncode}: {ended.stderr.strip()}")
+    raise Refused(fault[0].strip() if fault else f"flow verify ended with {ended.returncode}: {said.strip()}")
 
 
 def with_moment(at, body):
@@ -180,7 +181,7 @@ def read(copy):
 def opened(path, folder, program):
     """A store that nobody has open, read from a copy in a folder, once the program says that it's whole."""
     copy = copied(path, folder)
-    verified = is_verified(copy, program)
+    verified = is_verified(copy, path, program)
     store = read(copy)
     store.is_verified = verified
     return store
