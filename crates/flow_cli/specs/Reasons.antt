@@ -43,7 +43,7 @@ unopened_words unopened.SecondName = codes "the file has a second name (a hard l
 unopened_words unopened.Journal = codes "SQLite left a journal beside it: open it once with sqlite3"
 unopened_words unopened.NoName = codes "is no name of a file"
 unopened_words unopened.NotADatabase = codes "not an SQLite file"
-unopened_words unopened.Broken = codes "it breaks a rule of its tables, or has what flow doesn't read: try sqlite3 with 'pragma integrity_check'"
+unopened_words unopened.Broken = codes "it breaks a rule of its tables, or has what flow doesn't read: try sqlite3 on a copy with 'pragma integrity_check; pragma foreign_key_check'"
 unopened_words unopened.Full = codes "the disk is full"
 unopened_words unopened.Failed = codes "reading or writing it failed"
 

@@ -42,6 +42,12 @@ call_words call.History = codes "DB RUN"
 call_words call.Open = codes "DB"
 call_words call.Verify = codes "DB"
 
+-- what its numbers may be, in a line below its own where it is shown alone
+abbrev pub call_notes : CallName → List ℕ
+call_notes call.Drive = codes "  --batch takes 1 to 64, --cache 1 to 4096" ++ (10 ∷ [])
+call_notes call.History = codes "  RUN is a number, from 1 up" ++ (10 ∷ [])
+call_notes c = []
+
 -- a line for each of these calls
 abbrev pub usage_lines : List CallName → List ℕ
 usage_lines [] = []
@@ -49,5 +55,5 @@ usage_lines (c ∷ cs) = codes "  flow " ++ (call_name c ++ (codes " " ++ (call_
 
 -- of the call that was meant, and of all where none was
 abbrev pub usage_text : Option CallName → List ℕ
-usage_text (Some c) = usage_lines (c ∷ [])
+usage_text (Some c) = usage_lines (c ∷ []) ++ call_notes c
 usage_text None = usage_lines calls

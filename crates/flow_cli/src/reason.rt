@@ -93,7 +93,7 @@ impl Unopened {
             Unopened::NoName => "is no name of a file",
             Unopened::NotADatabase => "not an SQLite file",
             Unopened::Broken => {
-                "it breaks a rule of its tables, or has what flow doesn't read: try sqlite3 with 'pragma integrity_check'"
+                "it breaks a rule of its tables, or has what flow doesn't read: try sqlite3 on a copy with 'pragma integrity_check; pragma foreign_key_check'"
             }
             Unopened::Full => "the disk is full",
             Unopened::Failed => "reading or writing it failed",

@@ -38,7 +38,7 @@ impl CallName {
     }
 }
 
-/// The lines that show how the program is called: by one call, or by any.
+/// The lines that show how the program is called: by one call, with what its numbers may be, or by any.
 pub fn usage(call: Option<CallName>) -> &'static str
     ensures { result.now ≡ usage_text call }
 {
@@ -47,10 +47,16 @@ pub fn usage(call: Option<CallName>) -> &'static str
         Some(CallName::Safe) => "  flow safe OLD NEW\n",
         Some(CallName::Settle) => "  flow settle OLD NEW\n",
         Some(CallName::Replay) => "  flow replay FILE HISTORY\n",
-        Some(CallName::Drive) => "  flow drive DB [--batch N] [--cache N]\n",
+        Some(CallName::Drive) => {
+            "  flow drive DB [--batch N] [--cache N]\n\
+            \x20 --batch takes 1 to 64, --cache 1 to 4096\n"
+        }
         Some(CallName::Work) => "  flow work DB [--settings FILE] [--leave-unknown]\n",
         Some(CallName::Serve) => "  flow serve DB [--settings FILE]\n",
-        Some(CallName::History) => "  flow history DB RUN\n",
+        Some(CallName::History) => {
+            "  flow history DB RUN\n\
+            \x20 RUN is a number, from 1 up\n"
+        }
         Some(CallName::Open) => "  flow open DB\n",
         Some(CallName::Verify) => "  flow verify DB\n",
         None => {
