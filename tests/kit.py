@@ -8,13 +8,19 @@ import sys
 FOLDER = "/opt/rattle/bin"
 
 
+def loaded(path):
+    """A script as a module."""
+    name = os.path.basename(path)
+    loader = importlib.machinery.SourceFileLoader(name, path)
+    module = importlib.util.module_from_spec(importlib.util.spec_from_loader(name, loader))
+    loader.exec_module(module)
+    return module
+
+
 def load():
     """The kit's `rt`."""
     sys.path.insert(0, FOLDER)
-    loader = importlib.machinery.SourceFileLoader("rt", f"{FOLDER}/rt")
-    module = importlib.util.module_from_spec(importlib.util.spec_from_loader("rt", loader))
-    loader.exec_module(module)
-    return module
+    return loaded(f"{FOLDER}/rt")
 
 
 def keeps(rt):
